@@ -1,0 +1,7 @@
+-- What must be believed of the lock, in document 01's order: the state, its soundness, the step table, the events.
+pub mod Choice
+pub mod State
+pub mod Sound
+pub mod Acts
+pub mod Table
+pub mod Event

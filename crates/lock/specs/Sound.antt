@@ -1,0 +1,78 @@
+-- Document 01, "A state is sound when": each part in the document's order, the places of each edition as its three lists.
+use Prim.Native.Nat.{ℕ}
+use mathlib.Core.Bool.{Bool, true, false, not, _&&_, _||_}
+use mathlib.Core.List.{List, [], _∷_, _++_}
+use lib.Dec.{eqb, ltb, leb}
+use Rattle.lock.specs.declared.Row.{Row}
+use Rattle.lock.specs.declared.LockState.{LockState}
+use Rattle.lock.specs.Choice.{pick, every}
+use Rattle.lock.specs.State.{processors, isNone, isPlain, isDrawn, isGuarded, row}
+
+-- "23 rows": the places 0 to 22
+abbrev pub places : ℕ
+places = 23
+
+abbrev pub isIn : List ℕ → ℕ → Bool
+isIn [] k = false
+isIn (x ∷ xs) k = eqb x k || isIn xs k
+
+-- "plain has 0, 2, 3, 4, 5, 7, 9, 14, 15, 16, 17"
+abbrev pub plainPlaces : List ℕ
+plainPlaces = 0 ∷ 2 ∷ 3 ∷ 4 ∷ 5 ∷ 7 ∷ 9 ∷ 14 ∷ 15 ∷ 16 ∷ 17 ∷ []
+
+-- "drawn has those and 6, 8, 10 to 13, 19, 20, 21"
+abbrev pub drawnPlaces : List ℕ
+drawnPlaces = plainPlaces ++ (6 ∷ 8 ∷ 10 ∷ 11 ∷ 12 ∷ 13 ∷ 19 ∷ 20 ∷ 21 ∷ [])
+
+-- the place k is one that edition e has; "guarded has all of 0 to 22"
+unfoldable pub hasPlace : ℕ → ℕ → Bool
+hasPlace e k =
+    pick (isPlain e) (isIn plainPlaces k) (pick (isDrawn e) (isIn drawnPlaces k) (pick (isGuarded e) (ltb k places) false))
+
+-- "none or below N"
+abbrev pub noneOrBelow : ℕ → ℕ → Bool
+noneOrBelow n q = isNone q || ltb q n
+
+-- "L and each next, pred, succ, nx is none or below N; each locked is 0 to 3"
+unfoldable pub cellsSound : ℕ → Row → Bool
+cellsSound n r =
+    noneOrBelow n (r .next) && noneOrBelow n (r .pred) && noneOrBelow n (r .succ) && noneOrBelow n (r .nx) && leb (r .locked) 3
+
+-- "places 4 to 6 have a pred"
+abbrev pub wantsPred : ℕ → Bool
+wantsPred k = leb 4 k && leb k 6
+
+-- "17 to 22 a succ"
+abbrev pub wantsSucc : ℕ → Bool
+wantsSucc k = leb 17 k && leb k 22
+
+-- "21 also an nx"
+abbrev pub wantsNx : ℕ → Bool
+wantsNx k = eqb k 21
+
+-- where it is wanted, it is not none
+abbrev pub isThere : Bool → ℕ → Bool
+isThere wanted q = not wanted || not (isNone q)
+
+-- "each place is one its edition has; places 4 to 6 have a pred, 17 to 22 a succ, 21 also an nx"
+unfoldable pub placeSound : ℕ → Row → Bool
+placeSound e r =
+    hasPlace e (r .place) && isThere (wantsPred (r .place)) (r .pred) && isThere (wantsSucc (r .place)) (r .succ)
+    && isThere (wantsNx (r .place)) (r .nx)
+
+-- as fresh
+unfoldable pub asFresh : Row → Bool
+asFresh r =
+    isNone (r .next) && eqb (r .locked) 0 && not (r .guard) && not (r .flag) && eqb (r .place) 0 && isNone (r .pred)
+    && isNone (r .succ) && isNone (r .nx)
+
+-- "rows from N on are as fresh"; the rows below N have sound cells and a sound place
+unfoldable pub soundRow : LockState → ℕ → Bool
+soundRow s i =
+    pick (ltb i (s .n)) (cellsSound (s .n) (row s i) && placeSound (s .edition) (row s i)) (asFresh (row s i))
+
+-- "edition and N are in range; L ... is none or below N", and each of the sixteen rows is sound
+unfoldable pub sound : LockState → Bool
+sound s =
+    leb (s .edition) 2 && leb 1 (s .n) && leb (s .n) processors && noneOrBelow (s .n) (s .tail)
+    && every processors (soundRow s)

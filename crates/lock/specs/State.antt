@@ -1,0 +1,98 @@
+-- Document 01, "The state": the limits, a row, the state of one lock, the fresh state, and how one cell of it is replaced.
+-- Soundness stands in Sound, the step table in Acts and Table.
+use Prim.Native.Nat.{ℕ}
+use mathlib.Core.Bool.{Bool, false}
+use lib.ListN.{getD, set, replicate}
+use lib.Dec.{eqb}
+use Rattle.lock.specs.declared.Row.{Row}
+use Rattle.lock.specs.declared.LockState.{LockState}
+
+-- "The state of one lock and up to 16 processors"
+abbrev pub processors : ℕ
+processors = 16
+
+-- "None is written 255 (FF)"
+abbrev pub none : ℕ
+none = 255
+
+abbrev pub isNone : ℕ → Bool
+isNone q = eqb q none
+
+-- "Edition: 0 plain (figure 1), 1 drawn (figure 5), 2 guarded (figure 5 with the Boolean)"
+abbrev pub isPlain : ℕ → Bool
+isPlain e = eqb e 0
+
+abbrev pub isDrawn : ℕ → Bool
+isDrawn e = eqb e 1
+
+abbrev pub isGuarded : ℕ → Bool
+isGuarded e = eqb e 2
+
+-- "locked (0 Released, 1 Locked, 2 Preempted, 3 R_P, released while preempted)"
+abbrev pub Released : ℕ
+Released = 0
+
+abbrev pub Locked : ℕ
+Locked = 1
+
+abbrev pub Preempted : ℕ
+Preempted = 2
+
+abbrev pub RP : ℕ
+RP = 3
+
+-- "every row next none, locked 0, guard and flag clear, place 0, pred, succ and nx none"
+abbrev pub freshRow : Row
+freshRow =
+    record {
+      next = none;
+      locked = Released;
+      guard = false;
+      flag = false;
+      place = 0;
+      pred = none;
+      succ = none;
+      nx = none;
+    }
+
+-- "Fresh: L none, and every row" as above
+unfoldable pub freshState : ℕ → ℕ → LockState
+freshState e n = record { edition = e; n = n; tail = none; rows = replicate processors freshRow }
+
+-- the row of processor p; a row that is not there is as fresh
+unfoldable pub row : LockState → ℕ → Row
+row s p = getD (s .rows) p freshRow
+
+-- the row of processor p replaced, all else as it was; a row that is not there is not replaced
+unfoldable pub putRow : LockState → ℕ → Row → LockState
+putRow s p r = record { edition = s .edition; n = s .n; tail = s .tail; rows = set (s .rows) p r }
+
+-- L := q
+unfoldable pub putTail : LockState → ℕ → LockState
+putTail s q = record { edition = s .edition; n = s .n; tail = q; rows = s .rows }
+
+-- One cell of processor p's row replaced. Each reads the row anew, so two changes both hold where the two rows are one.
+unfoldable pub putNext : LockState → ℕ → ℕ → LockState
+putNext s p v = putRow s p (record { next = v; locked = (row s p) .locked; guard = (row s p) .guard; flag = (row s p) .flag; place = (row s p) .place; pred = (row s p) .pred; succ = (row s p) .succ; nx = (row s p) .nx })
+
+unfoldable pub putLocked : LockState → ℕ → ℕ → LockState
+putLocked s p v = putRow s p (record { next = (row s p) .next; locked = v; guard = (row s p) .guard; flag = (row s p) .flag; place = (row s p) .place; pred = (row s p) .pred; succ = (row s p) .succ; nx = (row s p) .nx })
+
+unfoldable pub putGuard : LockState → ℕ → Bool → LockState
+putGuard s p v = putRow s p (record { next = (row s p) .next; locked = (row s p) .locked; guard = v; flag = (row s p) .flag; place = (row s p) .place; pred = (row s p) .pred; succ = (row s p) .succ; nx = (row s p) .nx })
+
+unfoldable pub putFlag : LockState → ℕ → Bool → LockState
+putFlag s p v = putRow s p (record { next = (row s p) .next; locked = (row s p) .locked; guard = (row s p) .guard; flag = v; place = (row s p) .place; pred = (row s p) .pred; succ = (row s p) .succ; nx = (row s p) .nx })
+
+-- "to v": the place
+unfoldable pub to : LockState → ℕ → ℕ → LockState
+to s p v = putRow s p (record { next = (row s p) .next; locked = (row s p) .locked; guard = (row s p) .guard; flag = (row s p) .flag; place = v; pred = (row s p) .pred; succ = (row s p) .succ; nx = (row s p) .nx })
+
+unfoldable pub putPred : LockState → ℕ → ℕ → LockState
+putPred s p v = putRow s p (record { next = (row s p) .next; locked = (row s p) .locked; guard = (row s p) .guard; flag = (row s p) .flag; place = (row s p) .place; pred = v; succ = (row s p) .succ; nx = (row s p) .nx })
+
+unfoldable pub putSucc : LockState → ℕ → ℕ → LockState
+putSucc s p v = putRow s p (record { next = (row s p) .next; locked = (row s p) .locked; guard = (row s p) .guard; flag = (row s p) .flag; place = (row s p) .place; pred = (row s p) .pred; succ = v; nx = (row s p) .nx })
+
+unfoldable pub putNx : LockState → ℕ → ℕ → LockState
+putNx s p v = putRow s p (record { next = (row s p) .next; locked = (row s p) .locked; guard = (row s p) .guard; flag = (row s p) .flag; place = (row s p) .place; pred = (row s p) .pred; succ = (row s p) .succ; nx = v })

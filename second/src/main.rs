@@ -1,0 +1,68 @@
+//! The second program: an independent lockbench, and what holds the random schedules to account.
+
+mod bench;
+mod coverage;
+mod frame;
+mod lock;
+mod order;
+mod random;
+mod reachable;
+
+use std::io::{Read, Write};
+use std::process::exit;
+
+const USAGE: &str = "usage: second              a schedule on standard input, its log on standard output
+       second random       the sizes and digests of the 480 random logs
+       second schedule I   random schedule I
+       second coverage     how often the 480 schedules take each side of the step table
+       second order        what the undamaged schedules show of demand 3
+       second reachable N  all states of N processors that can be reached from fresh, N from 1 to 4
+";
+
+fn main() {
+    let arguments: Vec<String> = std::env::args().skip(1).collect();
+    let arguments: Vec<&str> = arguments.iter().map(|a| a.as_str()).collect();
+    match arguments[..] {
+        [] => {
+            let mut schedule = Vec::new();
+            if let Err(error) = std::io::stdin().lock().read_to_end(&mut schedule) {
+                eprintln!("standard input: {}", error);
+                exit(1);
+            }
+            put(&bench::log(&schedule));
+        }
+        ["random"] => put(&random::print()),
+        ["schedule", i] => match i.parse() {
+            Ok(i) => put(&random::schedule(i)),
+            Err(_) => usage(),
+        },
+        ["coverage"] => judge(coverage::print()),
+        ["order"] => judge(order::print()),
+        ["reachable", n] => match n.parse() {
+            Ok(n) if (1..=reachable::MOST_SEARCHED).contains(&n) => judge(reachable::print(n)),
+            _ => usage(),
+        },
+        _ => usage(),
+    }
+}
+
+/// Writes a text and ends with status 1 if it is not good.
+fn judge((text, good): (String, bool)) {
+    put(text.as_bytes());
+    if !good {
+        exit(1);
+    }
+}
+
+fn put(bytes: &[u8]) {
+    let mut out = std::io::stdout().lock();
+    if let Err(error) = out.write_all(bytes).and_then(|()| out.flush()) {
+        eprintln!("standard output: {}", error);
+        exit(1);
+    }
+}
+
+fn usage() {
+    eprint!("{}", USAGE);
+    exit(2);
+}
