@@ -1,1 +1,3 @@
+pub mod Rows
 pub mod Cases
+pub mod Order

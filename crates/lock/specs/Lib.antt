@@ -5,3 +5,4 @@ pub mod Sound
 pub mod Acts
 pub mod Table
 pub mod Event
+pub mod Run

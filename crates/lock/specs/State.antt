@@ -59,6 +59,31 @@ freshRow =
 unfoldable pub freshState : ℕ → ℕ → LockState
 freshState e n = record { edition = e; n = n; tail = none; rows = replicate processors freshRow }
 
+-- A row with one cell replaced.
+abbrev pub withNext : Row → ℕ → Row
+withNext r v = record { next = v; locked = r .locked; guard = r .guard; flag = r .flag; place = r .place; pred = r .pred; succ = r .succ; nx = r .nx }
+
+abbrev pub withLocked : Row → ℕ → Row
+withLocked r v = record { next = r .next; locked = v; guard = r .guard; flag = r .flag; place = r .place; pred = r .pred; succ = r .succ; nx = r .nx }
+
+abbrev pub withGuard : Row → Bool → Row
+withGuard r v = record { next = r .next; locked = r .locked; guard = v; flag = r .flag; place = r .place; pred = r .pred; succ = r .succ; nx = r .nx }
+
+abbrev pub withFlag : Row → Bool → Row
+withFlag r v = record { next = r .next; locked = r .locked; guard = r .guard; flag = v; place = r .place; pred = r .pred; succ = r .succ; nx = r .nx }
+
+abbrev pub withPlace : Row → ℕ → Row
+withPlace r v = record { next = r .next; locked = r .locked; guard = r .guard; flag = r .flag; place = v; pred = r .pred; succ = r .succ; nx = r .nx }
+
+abbrev pub withPred : Row → ℕ → Row
+withPred r v = record { next = r .next; locked = r .locked; guard = r .guard; flag = r .flag; place = r .place; pred = v; succ = r .succ; nx = r .nx }
+
+abbrev pub withSucc : Row → ℕ → Row
+withSucc r v = record { next = r .next; locked = r .locked; guard = r .guard; flag = r .flag; place = r .place; pred = r .pred; succ = v; nx = r .nx }
+
+abbrev pub withNx : Row → ℕ → Row
+withNx r v = record { next = r .next; locked = r .locked; guard = r .guard; flag = r .flag; place = r .place; pred = r .pred; succ = r .succ; nx = v }
+
 -- the row of processor p; a row that is not there is as fresh
 unfoldable pub row : LockState → ℕ → Row
 row s p = getD (s .rows) p freshRow
@@ -71,28 +96,29 @@ putRow s p r = record { edition = s .edition; n = s .n; tail = s .tail; rows = s
 unfoldable pub putTail : LockState → ℕ → LockState
 putTail s q = record { edition = s .edition; n = s .n; tail = q; rows = s .rows }
 
--- One cell of processor p's row replaced. Each reads the row anew, so two changes both hold where the two rows are one.
+-- One cell of processor p's row replaced, all else as it was. Each reads the row anew, so two changes both hold where the two
+-- rows are one.
 unfoldable pub putNext : LockState → ℕ → ℕ → LockState
-putNext s p v = putRow s p (record { next = v; locked = (row s p) .locked; guard = (row s p) .guard; flag = (row s p) .flag; place = (row s p) .place; pred = (row s p) .pred; succ = (row s p) .succ; nx = (row s p) .nx })
+putNext s p v = putRow s p (withNext (row s p) v)
 
 unfoldable pub putLocked : LockState → ℕ → ℕ → LockState
-putLocked s p v = putRow s p (record { next = (row s p) .next; locked = v; guard = (row s p) .guard; flag = (row s p) .flag; place = (row s p) .place; pred = (row s p) .pred; succ = (row s p) .succ; nx = (row s p) .nx })
+putLocked s p v = putRow s p (withLocked (row s p) v)
 
 unfoldable pub putGuard : LockState → ℕ → Bool → LockState
-putGuard s p v = putRow s p (record { next = (row s p) .next; locked = (row s p) .locked; guard = v; flag = (row s p) .flag; place = (row s p) .place; pred = (row s p) .pred; succ = (row s p) .succ; nx = (row s p) .nx })
+putGuard s p v = putRow s p (withGuard (row s p) v)
 
 unfoldable pub putFlag : LockState → ℕ → Bool → LockState
-putFlag s p v = putRow s p (record { next = (row s p) .next; locked = (row s p) .locked; guard = (row s p) .guard; flag = v; place = (row s p) .place; pred = (row s p) .pred; succ = (row s p) .succ; nx = (row s p) .nx })
+putFlag s p v = putRow s p (withFlag (row s p) v)
 
 -- "to v": the place
 unfoldable pub to : LockState → ℕ → ℕ → LockState
-to s p v = putRow s p (record { next = (row s p) .next; locked = (row s p) .locked; guard = (row s p) .guard; flag = (row s p) .flag; place = v; pred = (row s p) .pred; succ = (row s p) .succ; nx = (row s p) .nx })
+to s p v = putRow s p (withPlace (row s p) v)
 
 unfoldable pub putPred : LockState → ℕ → ℕ → LockState
-putPred s p v = putRow s p (record { next = (row s p) .next; locked = (row s p) .locked; guard = (row s p) .guard; flag = (row s p) .flag; place = (row s p) .place; pred = v; succ = (row s p) .succ; nx = (row s p) .nx })
+putPred s p v = putRow s p (withPred (row s p) v)
 
 unfoldable pub putSucc : LockState → ℕ → ℕ → LockState
-putSucc s p v = putRow s p (record { next = (row s p) .next; locked = (row s p) .locked; guard = (row s p) .guard; flag = (row s p) .flag; place = (row s p) .place; pred = (row s p) .pred; succ = v; nx = (row s p) .nx })
+putSucc s p v = putRow s p (withSucc (row s p) v)
 
 unfoldable pub putNx : LockState → ℕ → ℕ → LockState
-putNx s p v = putRow s p (record { next = (row s p) .next; locked = (row s p) .locked; guard = (row s p) .guard; flag = (row s p) .flag; place = (row s p) .place; pred = (row s p) .pred; succ = (row s p) .succ; nx = v })
+putNx s p v = putRow s p (withNx (row s p) v)

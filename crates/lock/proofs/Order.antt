@@ -1,0 +1,2 @@
+-- Demand 3: why nobody is overtaken. Tickets has the ghost state and the roles.
+pub mod Tickets
