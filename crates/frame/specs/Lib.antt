@@ -1,0 +1,4 @@
+-- What must be believed of frames, in document 01's order: digits and pairs, the check, what the reader answers, what the writer leaves.
+pub mod Pairs
+pub mod Reading
+pub mod Writing

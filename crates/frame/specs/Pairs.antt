@@ -1,0 +1,50 @@
+-- Document 01, "Frames": "A frame is pairs of upper-case hexadecimal digits and a line feed. The last pair is the check: the sum
+-- of all pairs, wrapping at 256, is 0." The digit's rule for reading and for writing, pairs, and the sum. Lines of any length.
+use Prim.Native.Nat.{ℕ, zero, suc, _+_, _-_, _*_, _/_, _%_}
+use mathlib.Core.Bool.{Bool, true, cond, _&&_, _||_}
+use mathlib.Core.List.{List, [], _∷_}
+use lib.ListN.{getD}
+use lib.Dec.{ltb, leb}
+
+-- the test holds of every number below n
+unfoldable pub every : ℕ → (ℕ → Bool) → Bool
+every zero f = true
+every (suc n) f = every n f && f n
+
+-- the line feed
+abbrev pub lineFeed : ℕ
+lineFeed = 10
+
+-- Reading: the byte b is "0-9 or A-F"
+abbrev pub isDigit : ℕ → Bool
+isDigit b = leb 48 b && leb b 57 || leb 65 b && leb b 70
+
+-- and stands for 0 to 9, or for 10 to 15
+unfoldable pub valueOf : ℕ → ℕ
+valueOf b = cond (leb b 57) (b - 48) (b - 55)
+
+-- Writing: the upper-case digit of v, below 16
+unfoldable pub digitOf : ℕ → ℕ
+digitOf v = cond (ltb v 10) (48 + v) (55 + v)
+
+-- the byte b of the text, 0 past its end
+abbrev pub byteAt : List ℕ → ℕ → ℕ
+byteAt text b = getD text b 0
+
+-- pair number i of a text, the high digit first
+unfoldable pub pairAt : List ℕ → ℕ → ℕ
+pairAt text i = valueOf (byteAt text (2 * i)) * 16 + valueOf (byteAt text (2 * i + 1))
+
+-- the k pairs of a text from pair number i on
+unfoldable pub pairsFrom : ℕ → ℕ → List ℕ → List ℕ
+pairsFrom i zero text = []
+pairsFrom i (suc k) text = pairAt text i ∷ pairsFrom (suc i) k text
+
+-- "the sum of all pairs, wrapping at 256"
+unfoldable pub sumOf : List ℕ → ℕ
+sumOf [] = 0
+sumOf (v ∷ vs) = (v + sumOf vs) % 256
+
+-- the number that brings a sum to 0: its wrapping negation
+unfoldable pub checkOf : List ℕ → ℕ
+checkOf vs = (256 - sumOf vs) % 256
