@@ -121,9 +121,7 @@ impl Counts {
         let edition = before.edition;
         let mut held = 0;
         for (i, side) in SIDES.iter().enumerate() {
-            if side.place == before.rows[p].place
-                && side.editions.contains(&edition)
-                && (side.holds)(before, after, p)
+            if side.place == before.rows[p].place && side.editions.contains(&edition) && (side.holds)(before, after, p)
             {
                 self.taken[edition as usize][i] += 1;
                 held += !side.choice as u32;
@@ -182,8 +180,8 @@ pub fn print() -> (String, bool) {
             line(label, raises[edition as usize][set], None);
         }
     }
-    for refusal in 1..=9 {
-        line(format!("refusal {:<39}", refusal), refusals[refusal], None);
+    for (refusal, &count) in refusals.iter().enumerate().skip(1) {
+        line(format!("refusal {:<39}", refusal), count, None);
     }
 
     text += &format!("schedules without a refusal: {} of {}\n", refusals[0], random::SCHEDULES);

@@ -43,8 +43,8 @@ pub const PEEK: u8 = 20;
 pub const TAKE: u8 = 21;
 pub const LIFT: u8 = 22;
 pub const PLACES: [&str; 23] = [
-    "rest", "gate", "clear", "swap", "arm", "link", "claim", "spin", "settle", "inside", "poll", "service",
-    "back", "regain", "look", "close", "await", "hand", "fence", "park", "peek", "take", "lift",
+    "rest", "gate", "clear", "swap", "arm", "link", "claim", "spin", "settle", "inside", "poll", "service", "back",
+    "regain", "look", "close", "await", "hand", "fence", "park", "peek", "take", "lift",
 ];
 
 /// Refusal 6: edition over 2.
@@ -68,16 +68,8 @@ pub struct Row {
     pub nx: u8,
 }
 
-pub const FRESH_ROW: Row = Row {
-    next: NONE,
-    locked: RELEASED,
-    guard: false,
-    flag: false,
-    place: REST,
-    pred: NONE,
-    succ: NONE,
-    nx: NONE,
-};
+pub const FRESH_ROW: Row =
+    Row { next: NONE, locked: RELEASED, guard: false, flag: false, place: REST, pred: NONE, succ: NONE, nx: NONE };
 
 #[derive(Clone, Copy, PartialEq, Eq, Debug)]
 pub struct Lock {
@@ -241,10 +233,7 @@ impl Lock {
                 }
             }
             HAND => {
-                if edition == PLAIN {
-                    r[succ].locked = RELEASED;
-                    REST
-                } else if r[succ].locked == LOCKED {
+                if edition == PLAIN || r[succ].locked == LOCKED {
                     r[succ].locked = RELEASED;
                     REST
                 } else if edition == DRAWN {

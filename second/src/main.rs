@@ -16,21 +16,15 @@ const USAGE: &str = "usage: second              a schedule on standard input, it
        second schedule I   random schedule I
        second coverage     how often the 480 schedules take each side of the step table
        second order        what the undamaged schedules show of demand 3
-       second reachable N  all states of N processors that can be reached from fresh, N from 1 to 4
+       second order one    the same for one schedule on standard input
+       second reachable N  all states of N processors that can be reached from fresh, N from 1 to 3
 ";
 
 fn main() {
-    let arguments: Vec<String> = std::env::args().skip(1).collect();
+    let arguments: Vec<String> = std::env::args_os().skip(1).map(|a| a.to_string_lossy().into_owned()).collect();
     let arguments: Vec<&str> = arguments.iter().map(|a| a.as_str()).collect();
     match arguments[..] {
-        [] => {
-            let mut schedule = Vec::new();
-            if let Err(error) = std::io::stdin().lock().read_to_end(&mut schedule) {
-                eprintln!("standard input: {}", error);
-                exit(1);
-            }
-            put(&bench::log(&schedule));
-        }
+        [] => put(&bench::log(&get())),
         ["random"] => put(&random::print()),
         ["schedule", i] => match i.parse() {
             Ok(i) => put(&random::schedule(i)),
@@ -38,6 +32,7 @@ fn main() {
         },
         ["coverage"] => judge(coverage::print()),
         ["order"] => judge(order::print()),
+        ["order", "one"] => judge(order::print_one(&get())),
         ["reachable", n] => match n.parse() {
             Ok(n) if (1..=reachable::MOST_SEARCHED).contains(&n) => judge(reachable::print(n)),
             _ => usage(),
@@ -52,6 +47,16 @@ fn judge((text, good): (String, bool)) {
     if !good {
         exit(1);
     }
+}
+
+/// The whole of standard input.
+fn get() -> Vec<u8> {
+    let mut bytes = Vec::new();
+    if let Err(error) = std::io::stdin().lock().read_to_end(&mut bytes) {
+        eprintln!("standard input: {}", error);
+        exit(1);
+    }
+    bytes
 }
 
 fn put(bytes: &[u8]) {

@@ -4,13 +4,13 @@ use crate::coverage::{self, Counts, SIDES};
 use crate::lock::*;
 use std::collections::HashSet;
 
-/// The most processors searched for; a state of more does not fit the packed form.
-pub const MOST_SEARCHED: u8 = 4;
+/// The most processors searched for: a state of three fits 57 bits, and four have too many states.
+pub const MOST_SEARCHED: u8 = 3;
 
 /// A state in few bits. Private cells that the place no longer uses are left out: no later act reads them
 /// before it writes them, so states that differ only there go on alike.
-fn pack(lock: &Lock) -> u128 {
-    let cell = |c: u8| if c == NONE { 7 } else { c as u128 };
+fn pack(lock: &Lock) -> u64 {
+    let cell = |c: u8| if c == NONE { 7 } else { c as u64 };
     let mut bits = cell(lock.tail);
     for row in &lock.rows[..lock.n as usize] {
         let pred_or_succ = match row.place {
@@ -21,20 +21,20 @@ fn pack(lock: &Lock) -> u128 {
         let nx = if row.place == TAKE || row.place == LIFT { row.nx } else { NONE };
         for &(value, width) in &[
             (cell(row.next), 3),
-            (row.locked as u128, 2),
-            (row.guard as u128, 1),
-            (row.flag as u128, 1),
-            (row.place as u128, 5),
+            (row.locked as u64, 2),
+            (row.guard as u64, 1),
+            (row.flag as u64, 1),
+            (row.place as u64, 5),
             (cell(pred_or_succ), 3),
             (cell(nx), 3),
         ] {
-            bits = bits << width | value;
+            bits = (bits << width) | value;
         }
     }
     bits
 }
 
-fn unpack(edition: u8, n: u8, mut bits: u128) -> Lock {
+fn unpack(edition: u8, n: u8, mut bits: u64) -> Lock {
     let mut part = |width: u32| {
         let value = (bits & ((1 << width) - 1)) as u8;
         bits >>= width;
@@ -62,7 +62,8 @@ fn unpack(edition: u8, n: u8, mut bits: u128) -> Lock {
 }
 
 /// The findings of each edition, and whether all is as it should be: every state is sound, and the list of
-/// sides that are not reachable is borne out. Every other side must be found from 3 processors on.
+/// sides that are not reachable is borne out. Three processors must find every other side. What three can do,
+/// more can do too.
 pub fn print(n: u8) -> (String, bool) {
     let mut text = String::new();
     let mut good = true;
@@ -92,10 +93,8 @@ pub fn print(n: u8) -> (String, bool) {
                 }
             }
         }
-        text += &format!(
-            "{:<8}N {}: {} states, {} of them not sound, at most {} inside at once\n",
-            EDITIONS[edition as usize], n, seen.len(), unsound, inside
-        );
+        text += &format!("{:<8}N {}: {} states, ", EDITIONS[edition as usize], n, seen.len());
+        text += &format!("{} of them not sound, at most {} inside at once\n", unsound, inside);
         good = good && unsound == 0;
         for (i, side) in SIDES.iter().enumerate().filter(|(_, side)| side.editions.contains(&edition)) {
             let found = counts.taken[edition as usize][i] > 0;

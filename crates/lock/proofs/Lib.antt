@@ -1,3 +1,4 @@
 pub mod Rows
 pub mod Cases
 pub mod Order
+pub mod Exclusion

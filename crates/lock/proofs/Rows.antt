@@ -3,11 +3,14 @@
 --     row-put-other    every other row is as it was
 --     row-put          both, as one choice
 --     rows-put         there are as many rows as before
-use Prim.Native.Nat.{ℕ, _<_}
+--     getD-any         an index within a list needs no default
+use Prim.Native.Nat.{ℕ, zero, suc, _<_}
+use native.Mathlib.Nat.{not-suc-le-zero, le-of-suc-le-suc}
+use mathlib.Core.List.{List, [], _∷_, map}
 use mathlib.Core.Path.{_≡_, refl, sym, _∙_}
 use mathlib.Core.Bool.{Bool, true, false}
 use mathlib.Core.Logic.{_≢_}
-use lib.ListN.{length, length-set}
+use lib.ListN.{length, getD, length-set, length-map}
 use lib.Seq.{getD-set-same, getD-set-other}
 use lib.Dec.{eqb}
 use borrow.Author.Tests.{eqb-true, eqb-false}
@@ -35,3 +38,13 @@ chosen s p r q false e h = row-put-other s p r q (eqb-false q p e)
 
 pub row-put : (s : LockState) (p : ℕ) (r : Row) (q : ℕ) → p < length (s .rows) → row (putRow s p r) q ≡ pick (eqb q p) r (row s q)
 row-put s p r q h = chosen s p r q (eqb q p) refl h
+
+-- what stands at an index within a list does not depend on the default
+pub getD-any : {A : Type 0} (l : List A) (i : ℕ) (d e : A) → i < length l → getD l i d ≡ getD l i e
+getD-any [] i d e h = absurd (not-suc-le-zero h)
+getD-any (a ∷ l) zero d e h = refl
+getD-any (a ∷ l) (suc i) d e h = getD-any l i d e (le-of-suc-le-suc h)
+
+-- a list is as long as what a function makes of each of its elements
+pub length-mapped : (X Y : Type 0) (f : X → Y) (l : List X) (n : ℕ) → length (map f l) ≡ n → length l ≡ n
+length-mapped X Y f l n e = sym (length-map l f) ∙ e

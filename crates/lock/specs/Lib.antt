@@ -6,3 +6,5 @@ pub mod Acts
 pub mod Table
 pub mod Event
 pub mod Run
+pub mod Count
+pub mod Claims

@@ -3,6 +3,7 @@ ghost use mathlib.Core.Path.{_≡_};
 ghost use Rattle.lock.specs.State.{freshRow};
 ghost use Rattle.lock.specs.State.{freshState, row, putRow, putNext};
 
+mod acts;
 mod cells;
 
 pub struct Row {
@@ -51,4 +52,18 @@ impl LockState {
     pub const PLACES: u8 = 23;
 
     pub const NONE: u8 = 255;
+
+    pub const PLAIN: u8 = 0;
+
+    pub const DRAWN: u8 = 1;
+
+    pub const GUARDED: u8 = 2;
+
+    pub const RELEASED: u8 = 0;
+
+    pub const LOCKED: u8 = 1;
+
+    pub const PREEMPTED: u8 = 2;
+
+    pub const RP: u8 = 3;
 }

@@ -1,0 +1,12 @@
+-- `lock::LockState::inside` meets its contract: the rows that were read, the tests that led here and the calls made are those of `inside`.
+use borrow.Author.Needs.{needs}
+use Rattle.lock.specs.Acts.{inside}
+use Rattle.lock.proofs.LockState.inside.Statement.{statement}
+use Rattle.lock.proofs.LockState.inside.Tie as tie
+
+returns : tie.Need-returns
+unfolding inside
+returns c = c .to .ensures
+
+pub inside-spec : {M : Type 1} → statement M
+inside-spec = tie.close (tie.spec (λ c κs. search needs) returns)

@@ -1,0 +1,105 @@
+-- A call, by what becomes of it: refused (nothing changes), an accepted step, or an accepted raise. Accepted calls come with
+-- what their acceptance tells. Also the parts of soundness that the arguments about runs use.
+--     by-call          a statement of state and tickets holds after every call, if it holds in these three cases
+--     sound-bounds     the number of processors is within the rows
+--     sound-places     each processor's place is one that its edition has
+use Prim.Native.Nat.{ℕ, zero, suc, _<_, _≤_}
+use mathlib.Core.Path.{_≡_, refl, sym, _∙_}
+use mathlib.Core.Bool.{Bool, true, false, not, _&&_, _||_}
+use mathlib.Core.Logic.{⊎-elim}
+use native.Mathlib.Omega.{arith}
+use native.Mathlib.Nat.{eq-or-lt-of-le, le-of-suc-le-suc}
+use lib.Dec.{eqb, ltb, leb}
+use borrow.Author.Tests.{leb-true, leb-false, eq-eqb, lt-ltb}
+use Rattle.lock.specs.declared.Row.{Row}
+use Rattle.lock.specs.declared.LockState.{LockState}
+use Rattle.lock.specs.declared.Answer.{Answer}
+use Rattle.lock.specs.Choice.{pick, every}
+use Rattle.lock.specs.State.{processors, row}
+use Rattle.lock.specs.Sound.{noneOrBelow, hasPlace, cellsSound, placeSound, wantsPred, wantsSucc, wantsNx, isThere, soundRow, sound}
+use Rattle.lock.specs.Table.{stepped}
+use Rattle.lock.specs.Event.{accepted, refused, isStep, isRaise, raised, happens}
+use Rattle.lock.specs.Run.{Call, after, stepsOf, joins}
+use Rattle.lock.proofs.Order.Tickets.{Tickets, ticketed}
+
+-- the tickets after p has joined
+abbrev pub joined : Tickets → ℕ → Tickets
+joined g p = record { count = suc (g .count); latest = λ q. pick (eqb q p) (g .count) (g .latest q) }
+
+-- the tickets after p has stepped
+abbrev pub stepTickets : LockState → Tickets → ℕ → Tickets
+stepTickets s g p = pick (eqb ((row s p) .place) 3) (joined g p) g
+
+abbrev answer : Bool → Bool → Bool → LockState → LockState → Answer
+answer fit event high s t = pick (not fit) (refused 11 s) (pick (not event) (refused 8 s) (pick high (refused 9 s) (accepted t)))
+
+-- by-call's cases, the tests as Booleans: a sound state, an event, a processor too high, a step, the caller itself, a join
+outcome :
+    (P : LockState → Tickets → Type 0) (fit event high step own join : Bool) (s t u : LockState) (g h : Tickets) → own ≡ true → P s g
+    → (fit ≡ true → high ≡ false → P t (pick join h g))
+    → (fit ≡ true → high ≡ false → P u g)
+    → P ((answer fit event high s (pick step t u)) .state)
+    (pick (eqb ((answer fit event high s (pick step t u)) .refusal) 0 && step && own && join) h g)
+outcome P false event high step own join s t u g h o same stepped raised = same
+outcome P true false high step own join s t u g h o same stepped raised = same
+outcome P true true true step own join s t u g h o same stepped raised = same
+outcome P true true false true own join s t u g h o same stepped raised = rw o (stepped refl refl)
+outcome P true true false false own join s t u g h o same stepped raised = raised refl refl
+
+pub by-call :
+    (P : LockState → Tickets → Type 0) (s : LockState) (g : Tickets) (c : Call) → P s g
+    → (sound s ≡ true → c .processor < s .n → P (stepped s (c .processor)) (stepTickets s g (c .processor)))
+    → (sound s ≡ true → c .processor < s .n → P (raised s (c .processor)) g)
+    → P (after s c) (ticketed s g c)
+unfolding after happens ticketed joins stepsOf
+by-call P s g c same step raise =
+    let p = c .processor in
+    outcome P (sound s) (isStep (c .event) || isRaise (c .event)) (leb (s .n) p) (isStep (c .event)) (eqb p p) (eqb ((row s p) .place) 3)
+    s (stepped s p) (raised s p) g (joined g p) (eq-eqb p p refl) same
+    (λ fit high. step fit (leb-false (s .n) p high)) (λ fit high. raise fit (leb-false (s .n) p high))
+
+-- the two halves of a conjunction
+pub and-left : (a b : Bool) → a && b ≡ true → a ≡ true
+and-left true b e = refl
+and-left false b e = e
+
+pub and-right : (a b : Bool) → a && b ≡ true → b ≡ true
+and-right true b e = e
+and-right false b e = cc
+
+-- what holds of every number below n holds of each
+pub every-at : (n : ℕ) (f : ℕ → Bool) (i : ℕ) → every n f ≡ true → i < n → f i ≡ true
+unfolding every
+every-at zero f i e h = absurd (omega arith)
+every-at (suc n) f i e h =
+    ⊎-elim (λ same. rw same (and-right (every n f) (f n) e)) (λ less. every-at n f i (and-left (every n f) (f n) e) less)
+    (eq-or-lt-of-le (le-of-suc-le-suc h))
+
+-- sound's five parts, of which the third and the fifth are used
+parts : (a b c d e : Bool) → a && b && c && d && e ≡ true → (c ≡ true) × (e ≡ true)
+parts a b c d e h =
+    (and-right (a && b) c (and-left (a && b && c) d (and-left (a && b && c && d) e h)), and-right (a && b && c && d) e h)
+
+sound-parts : (s : LockState) → sound s ≡ true → (leb (s .n) processors ≡ true) × (every processors (soundRow s) ≡ true)
+unfolding sound
+sound-parts s e =
+    parts (leb (s .edition) 2) (leb 1 (s .n)) (leb (s .n) processors) (noneOrBelow (s .n) (s .tail)) (every processors (soundRow s)) e
+
+pub sound-bounds : (s : LockState) → sound s ≡ true → s .n ≤ processors
+sound-bounds s e = leb-true (s .n) processors (sound-parts s e .0)
+
+sound-place : (e : ℕ) (r : Row) → placeSound e r ≡ true → hasPlace e (r .place) ≡ true
+unfolding placeSound
+sound-place e r h =
+    let a = hasPlace e (r .place) in
+    let b = isThere (wantsPred (r .place)) (r .pred) in
+    let c = isThere (wantsSucc (r .place)) (r .succ) in
+    and-left a b (and-left (a && b) c (and-left (a && b && c) (isThere (wantsNx (r .place)) (r .nx)) h))
+
+pub sound-places : (s : LockState) (q : ℕ) → sound s ≡ true → q < s .n → hasPlace (s .edition) ((row s q) .place) ≡ true
+unfolding soundRow
+sound-places s q e h =
+    let bound : s .n ≤ 16 = sound-bounds s e in
+    let one : soundRow s q ≡ true = every-at processors (soundRow s) q (sound-parts s e .1) (omega arith) in
+    let both : cellsSound (s .n) (row s q) && placeSound (s .edition) (row s q) ≡ true = rw (lt-ltb q (s .n) h, soundRow) at one in
+    sound-place (s .edition) (row s q) (and-right (cellsSound (s .n) (row s q)) (placeSound (s .edition) (row s q)) both)

@@ -1,0 +1,83 @@
+-- The places grouped by what the arguments about runs say of them: places that no argument tells apart are one stage. And what
+-- holds of every stage by looking at each once.
+--     Stage, stageOf, stageAt      the groups, the group of a place, and of a place's number
+--     stage-by                     a test of a stage that computes to true at each of them holds of any
+--     implies                      a test that follows from another
+use Prim.Native.Nat.{ℕ}
+use mathlib.Core.Path.{_≡_, refl}
+use mathlib.Core.Bool.{Bool, true, false, not, _||_}
+use mathlib.Core.List.{List, [], _∷_}
+use lib.ListN.{getD}
+use lib.Dec.{lit<}
+use Rattle.lock.specs.Choice.{every}
+use Rattle.lock.specs.Table.{Place, placeAt, rest, gate, clear, swap, arm, link, claim, spin, settle, inside, poll, service, back, regain, look, close, await, hand, fence, park, peek, take, lift, nowhere}
+use Rattle.lock.proofs.Order.Calls.{every-at}
+
+pub data Stage : Type 0 where
+  resting clearing swapping arming linking claiming spinning settling holding serving regaining handing fencing parking peeking taking lifting : Stage
+
+abbrev pub stageOf : Place → Stage
+stageOf rest = resting
+stageOf gate = resting
+stageOf clear = clearing
+stageOf swap = swapping
+stageOf arm = arming
+stageOf link = linking
+stageOf claim = claiming
+stageOf spin = spinning
+stageOf settle = settling
+stageOf inside = holding
+stageOf poll = spinning
+stageOf service = serving
+stageOf back = serving
+stageOf regain = regaining
+stageOf look = holding
+stageOf close = holding
+stageOf await = holding
+stageOf hand = handing
+stageOf fence = fencing
+stageOf park = parking
+stageOf peek = peeking
+stageOf take = taking
+stageOf lift = lifting
+stageOf nowhere = resting
+
+abbrev pub stageAt : ℕ → Stage
+stageAt k = stageOf (placeAt k)
+
+abbrev stages : ℕ → Stage
+stages i =
+    getD
+    (resting ∷ clearing ∷ swapping ∷ arming ∷ linking ∷ claiming ∷ spinning ∷ settling ∷ holding ∷ serving ∷ regaining ∷ handing
+    ∷ fencing ∷ parking ∷ peeking ∷ taking ∷ lifting ∷ [])
+    i resting
+
+abbrev pub everyStage : (Stage → Bool) → Bool
+everyStage f = every 17 (λ i. f (stages i))
+
+pub stage-by : (f : Stage → Bool) → everyStage f ≡ true → (st : Stage) → f st ≡ true
+stage-by f e resting = every-at 17 (λ i. f (stages i)) 0 e (lit< tt)
+stage-by f e clearing = every-at 17 (λ i. f (stages i)) 1 e (lit< tt)
+stage-by f e swapping = every-at 17 (λ i. f (stages i)) 2 e (lit< tt)
+stage-by f e arming = every-at 17 (λ i. f (stages i)) 3 e (lit< tt)
+stage-by f e linking = every-at 17 (λ i. f (stages i)) 4 e (lit< tt)
+stage-by f e claiming = every-at 17 (λ i. f (stages i)) 5 e (lit< tt)
+stage-by f e spinning = every-at 17 (λ i. f (stages i)) 6 e (lit< tt)
+stage-by f e settling = every-at 17 (λ i. f (stages i)) 7 e (lit< tt)
+stage-by f e holding = every-at 17 (λ i. f (stages i)) 8 e (lit< tt)
+stage-by f e serving = every-at 17 (λ i. f (stages i)) 9 e (lit< tt)
+stage-by f e regaining = every-at 17 (λ i. f (stages i)) 10 e (lit< tt)
+stage-by f e handing = every-at 17 (λ i. f (stages i)) 11 e (lit< tt)
+stage-by f e fencing = every-at 17 (λ i. f (stages i)) 12 e (lit< tt)
+stage-by f e parking = every-at 17 (λ i. f (stages i)) 13 e (lit< tt)
+stage-by f e peeking = every-at 17 (λ i. f (stages i)) 14 e (lit< tt)
+stage-by f e taking = every-at 17 (λ i. f (stages i)) 15 e (lit< tt)
+stage-by f e lifting = every-at 17 (λ i. f (stages i)) 16 e (lit< tt)
+
+-- the second test holds where the first does
+abbrev pub implies : Bool → Bool → Bool
+implies a b = not a || b
+
+pub implied : (a b : Bool) → implies a b ≡ true → a ≡ true → b ≡ true
+implied true b e h = e
+implied false b e h = cc
