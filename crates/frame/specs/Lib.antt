@@ -2,3 +2,4 @@
 pub mod Pairs
 pub mod Reading
 pub mod Writing
+pub mod Laws

@@ -2,6 +2,7 @@
 //
 // The public functions ask nothing of their caller. What each answers, and what it leaves in a lent buffer, is one equation with
 // a definition of `specs/`. `pairs` is shared by lines of every length, read or written.
+pub mod laws;
 mod pairs;
 mod reading;
 mod writing;

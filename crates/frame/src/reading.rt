@@ -3,7 +3,7 @@ use crate::Line;
 use crate::pairs;
 ghost use mathlib.Core.Path.{_≡_};
 ghost use Prim.Native.Nat.{_<_};
-ghost use Rattle.frame.specs.Reading.{told, reads, readAs, isTorn, restOf};
+ghost use Rattle.frame.specs.Reading.{told, reads, readAs, isTorn, kindOf, restOf};
 
 const LINE_FEED: u8 = 10;
 
@@ -11,8 +11,7 @@ const LINE_FEED: u8 = 10;
 pub fn read(text: &[u8], is_first: bool) -> Line
     ensures { λ r. ⌜ told r ≡ reads (now (text .entry)) «is_first» ⌝ }
 {
-    let kind: u8 = if is_first { 1 } else { 2 };
-    let refused = refusal(text, 4, kind);
+    let refused = refusal(text, 4, kind_of(is_first));
     if refused != 0 {
         return Line::Refused(refused);
     }
@@ -33,6 +32,13 @@ pub fn rest(text: &[u8]) -> &[u8]
         return &text[end..];
     }
     &text[9..]
+}
+
+// The pair that begins the wanted line.
+fn kind_of(is_first: bool) -> u8
+    ensures { λ r. ⌜ r ≡ kindOf «is_first» ⌝ }
+{
+    if is_first { 1 } else { 2 }
 }
 
 // The refusal of a line of k pairs that is to begin with the pair `kind`; 0 for none. Each test is made only where the ones

@@ -1,3 +1,5 @@
+pub mod Every
+pub mod Places
 pub mod Rows
 pub mod Cases
 pub mod Order

@@ -10,12 +10,13 @@ use Rattle.lock.specs.Acts as Acts
 pub data Place : Type 0 where
   rest gate clear swap arm link claim spin settle inside poll service back regain look close await hand fence park peek take lift nowhere : Place
 
+abbrev pub names : List Place
+names =
+    rest ∷ gate ∷ clear ∷ swap ∷ arm ∷ link ∷ claim ∷ spin ∷ settle ∷ inside ∷ poll ∷ service ∷ back ∷ regain ∷ look ∷ close
+    ∷ await ∷ hand ∷ fence ∷ park ∷ peek ∷ take ∷ lift ∷ []
+
 abbrev pub placeAt : ℕ → Place
-placeAt k =
-    getD
-    (rest ∷ gate ∷ clear ∷ swap ∷ arm ∷ link ∷ claim ∷ spin ∷ settle ∷ inside ∷ poll ∷ service ∷ back ∷ regain ∷ look ∷ close
-    ∷ await ∷ hand ∷ fence ∷ park ∷ peek ∷ take ∷ lift ∷ [])
-    k nowhere
+placeAt k = getD names k nowhere
 
 -- "Step does the act of the processor's place"
 abbrev pub act : Place → LockState → ℕ → LockState

@@ -5,6 +5,9 @@ ghost use Rattle.lock.specs.State.{freshState, row, putRow, putNext};
 
 mod acts;
 mod cells;
+mod event;
+mod sound;
+mod table;
 
 pub struct Row {
     pub next: u8,

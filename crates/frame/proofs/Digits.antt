@@ -1,0 +1,100 @@
+-- The digit's rule for reading beside its rule for writing, and pairs of digits. Both rules together are one computed test of
+-- every value below 16, and one of every byte up to F.
+--     digit-low, digit-high     the bounds of a digit up to 9, and of one above
+--     digit-is-digit            the digit of v is a digit
+--     value-of-digit            and stands for v
+--     value-below               a digit stands for a number below 16
+--     digit-of-value            and is the digit of that number
+--     pair-below                two digits make a number below 256
+--     pair-of-digits            the two digits of v make v
+--     digits-of-pair            the digits of what two digits make are those two
+-- Assumes nothing.
+use Prim.Native.Nat.{ℕ, _+_, _*_, _/_, _%_, _<_, _≤_}
+use native.Mathlib.Omega.{arith}
+use mathlib.Core.Path.{_≡_, refl, ap, _∙_}
+use mathlib.Core.Bool.{Bool, true, false, not, _&&_, _||_, and-eq-true-iff}
+use mathlib.Core.Logic.{_⊎_, inl, inr, ⊎-elim}
+use lib.Dec.{leb, ltb, eqb}
+use borrow.Author.Tests.{leb-true, ltb-true, eqb-true}
+use Rattle.frame.specs.Pairs.{every, isDigit, valueOf, digitOf}
+use Rattle.frame.proofs.Every.{every-at}
+
+or-cases : (a b : Bool) → a || b ≡ true → (a ≡ true) ⊎ (b ≡ true)
+or-cases true b e = inl refl
+or-cases false b e = inr e
+
+range : (low high b : ℕ) → leb low b && leb b high ≡ true → (low ≤ b) × (b ≤ high)
+range low high b e =
+    let h = and-eq-true-iff (leb low b) (leb b high) .0 e in
+    (leb-true low b (h .0), leb-true b high (h .1))
+
+digit-cases : (b : ℕ) → isDigit b ≡ true → ((48 ≤ b) × (b ≤ 57)) ⊎ ((65 ≤ b) × (b ≤ 70))
+digit-cases b e =
+    ⊎-elim (λ h. inl (range 48 57 b h)) (λ h. inr (range 65 70 b h))
+    (or-cases (leb 48 b && leb b 57) (leb 65 b && leb b 70) e)
+
+pub digit-low : (b : ℕ) → isDigit b ≡ true → 48 ≤ b
+digit-low b e =
+    ⊎-elim (λ (h : (48 ≤ b) × (b ≤ 57)). omega arith) (λ (h : (65 ≤ b) × (b ≤ 70)). omega arith) (digit-cases b e)
+
+pub digit-high : (b : ℕ) → isDigit b ≡ true → b < 71
+digit-high b e =
+    ⊎-elim (λ (h : (48 ≤ b) × (b ≤ 57)). omega arith) (λ (h : (65 ≤ b) × (b ≤ 70)). omega arith) (digit-cases b e)
+
+-- what is written of a value below 16 is read as that value
+back : ℕ → Bool
+back v = isDigit (digitOf v) && eqb (valueOf (digitOf v)) v
+
+all-back : every 16 back ≡ true
+unfolding every back digitOf valueOf
+all-back = refl
+
+pub digit-is-digit : (v : ℕ) → v < 16 → isDigit (digitOf v) ≡ true
+unfolding back
+digit-is-digit v h = and-eq-true-iff (isDigit (digitOf v)) (eqb (valueOf (digitOf v)) v) .0 (every-at 16 back all-back v h) .0
+
+pub value-of-digit : (v : ℕ) → v < 16 → valueOf (digitOf v) ≡ v
+unfolding back
+value-of-digit v h =
+    eqb-true (valueOf (digitOf v)) v
+    (and-eq-true-iff (isDigit (digitOf v)) (eqb (valueOf (digitOf v)) v) .0 (every-at 16 back all-back v h) .1)
+
+-- what is read of a digit is written as that digit
+forth : ℕ → Bool
+forth b = not (isDigit b) || ltb (valueOf b) 16 && eqb (digitOf (valueOf b)) b
+
+all-forth : every 71 forth ≡ true
+unfolding every forth digitOf valueOf
+all-forth = refl
+
+forth-at : (b : ℕ) → isDigit b ≡ true → ltb (valueOf b) 16 && eqb (digitOf (valueOf b)) b ≡ true
+unfolding forth
+forth-at b e = rw e at (every-at 71 forth all-forth b (digit-high b e))
+
+pub value-below : (b : ℕ) → isDigit b ≡ true → valueOf b < 16
+value-below b e =
+    ltb-true (valueOf b) 16 (and-eq-true-iff (ltb (valueOf b) 16) (eqb (digitOf (valueOf b)) b) .0 (forth-at b e) .0)
+
+pub digit-of-value : (b : ℕ) → isDigit b ≡ true → digitOf (valueOf b) ≡ b
+digit-of-value b e =
+    eqb-true (digitOf (valueOf b)) b
+    (and-eq-true-iff (ltb (valueOf b) 16) (eqb (digitOf (valueOf b)) b) .0 (forth-at b e) .1)
+
+pub pair-below : (a b : ℕ) → isDigit a ≡ true → isDigit b ≡ true → valueOf a * 16 + valueOf b < 256
+pair-below a b ha hb = omega (arith, value-below a ha, value-below b hb)
+
+pub pair-of-digits : (v : ℕ) → v < 256 → valueOf (digitOf (v / 16)) * 16 + valueOf (digitOf (v % 16)) ≡ v
+pair-of-digits v h = omega (arith, value-of-digit (v / 16) (omega arith), value-of-digit (v % 16) (omega arith))
+
+high-of-pair : (h l : ℕ) → l < 16 → (h * 16 + l) / 16 ≡ h
+high-of-pair h l q = omega arith
+
+low-of-pair : (h l : ℕ) → l < 16 → (h * 16 + l) % 16 ≡ l
+low-of-pair h l q = omega arith
+
+pub digits-of-pair : (a b : ℕ) → isDigit a ≡ true → isDigit b ≡ true →
+    (digitOf ((valueOf a * 16 + valueOf b) / 16) ≡ a) × (digitOf ((valueOf a * 16 + valueOf b) % 16) ≡ b)
+digits-of-pair a b ha hb = (
+  ap digitOf (high-of-pair (valueOf a) (valueOf b) (value-below b hb)) ∙ digit-of-value a ha,
+  ap digitOf (low-of-pair (valueOf a) (valueOf b) (value-below b hb)) ∙ digit-of-value b hb,
+)

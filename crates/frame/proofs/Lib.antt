@@ -1,0 +1,9 @@
+-- Laws that belong to no one function, from a test of every number up to the line.
+pub mod Every
+pub mod Digits
+pub mod Sums
+pub mod Lines
+pub mod Buffers
+pub mod Refusals
+pub mod Back
+pub mod Proved

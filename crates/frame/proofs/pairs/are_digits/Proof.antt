@@ -1,0 +1,62 @@
+-- `frame::pairs::are_digits` meets its contract. The loop's invariant: `all` is the test of every byte passed.
+-- Assumes nothing.
+use Prim.Native.Nat.{_*_, _-_, _≤_}
+use native.Mathlib.Omega.{arith}
+use native.Mathlib.Nat.{le-antisymm}
+use mathlib.Core.Path.{_≡_, refl, ap, _∙_}
+use Rattle.frame.specs.Pairs.{every, isDigit, byteAt}
+use Rattle.frame.specs.Reading.{areDigits}
+use denote.Ref.{now}
+use borrow.Author.Needs.{needs}
+use Rattle.frame.proofs.Every.{every-next}
+use Rattle.frame.proofs.pairs.are_digits.Statement.{statement}
+use Rattle.frame.proofs.pairs.are_digits.Tie as tie
+
+abbrev Inv-loop : tie.InvT-loop
+Inv-loop text k all₀ i₀ all i = (i ≤ 2 * k) × (all ≡ every i (λ b. isDigit (byteAt text b)))
+
+abbrev μ-loop : tie.MeasureT-loop
+μ-loop text k all₀ i₀ all i = 2 * k - i
+
+loop-holds : tie.Need-loop-holds Inv-loop μ-loop
+unfolding every
+loop-holds c = (omega arith, refl)
+
+mul-loop : tie.Need-mul-loop Inv-loop μ-loop
+mul-loop c = omega arith
+
+shared-slice-read-is-digit : tie.Need-shared-slice-read-is-digit Inv-loop μ-loop
+shared-slice-read-is-digit c = omega arith
+
+is-digit-requires : tie.Need-is-digit-requires Inv-loop μ-loop
+is-digit-requires c κs = search needs
+
+add-i : tie.Need-add-i Inv-loop μ-loop
+add-i c = omega arith
+
+loop-less : tie.Need-loop-less Inv-loop μ-loop
+loop-less c = omega arith
+
+loop-again : tie.Need-loop-again Inv-loop μ-loop
+loop-again c = (omega arith, every-next _ _ _ _ (c .before .before .before .loop .inv .1) (c .is-digit .ensures))
+
+returns : tie.Need-returns Inv-loop μ-loop
+unfolding areDigits
+returns c =
+    let end = le-antisymm (c .before .loop .inv .0) (c .loop-test .left) in
+    c .before .loop .inv .1 ∙ ap (λ n. every n (λ b. isDigit (byteAt (now (c .before .before .before .args .text)) b))) end
+
+pub are-digits-spec : {M : Type 1} → statement M
+are-digits-spec =
+    tie.close
+    (tie.spec
+    Inv-loop
+    μ-loop
+    loop-holds
+    mul-loop
+    shared-slice-read-is-digit
+    is-digit-requires
+    add-i
+    loop-less
+    loop-again
+    returns)

@@ -1,0 +1,82 @@
+-- `frame::pairs::put_pairs` meets its contract. The loop's invariant: the buffer begins with the digits of the values passed and
+-- is as it was after them, and `total` is their sum.
+-- Assumes nothing.
+use Prim.Native.Nat.{_*_, _-_, _≤_}
+use native.Mathlib.Nat.{le-antisymm}
+use native.Mathlib.Omega.{arith}
+use mathlib.Core.Path.{_≡_, refl, ap, _∙_}
+use mathlib.Core.List.{_++_}
+use lib.ListN.{length, take, drop}
+use lib.Seq.{take-all}
+use denote.Ref.{now}
+use Rattle.frame.specs.Pairs.{sumOf}
+use Rattle.frame.specs.Writing.{digitsOf}
+use Rattle.frame.proofs.Buffers.{put-goes-on, total-goes-on}
+use borrow.Author.Needs.{needs}
+use Rattle.frame.proofs.pairs.put_pairs.Statement.{statement}
+use Rattle.frame.proofs.pairs.put_pairs.Tie as tie
+
+abbrev Inv-loop : tie.InvT-loop
+Inv-loop out₀ values total₀ i₀ out total i = (i ≤ length values) × (total ≡ sumOf (take i values)) × (out ≡ digitsOf (take i values) ++ drop (2 * i) out₀) × (length out ≡ length out₀)
+
+abbrev μ-loop : tie.MeasureT-loop
+μ-loop out₀ values total₀ i₀ out total i = length values - i
+
+loop-holds : tie.Need-loop-holds Inv-loop μ-loop
+unfolding sumOf digitsOf
+loop-holds c = (omega arith, refl, refl, refl)
+
+shared-slice-read-v : tie.Need-shared-slice-read-v Inv-loop μ-loop
+shared-slice-read-v c = omega arith
+
+put-pair-requires : tie.Need-put-pair-requires Inv-loop μ-loop
+put-pair-requires c κs = omega arith
+
+wrapping-add-u8-requires : tie.Need-wrapping-add-u8-requires Inv-loop μ-loop
+wrapping-add-u8-requires c κs = search needs
+
+add-i : tie.Need-add-i Inv-loop μ-loop
+add-i c = omega arith
+
+loop-less : tie.Need-loop-less Inv-loop μ-loop
+loop-less c = omega arith
+
+loop-again : tie.Need-loop-again Inv-loop μ-loop
+loop-again c =
+    let turn = c .before .before .before .before .before .before in
+    let values = now (turn .before .before .before .before .args .values) in (
+      omega arith,
+      total-goes-on values _ (turn .loop-test .taken) _ _ (turn .before .loop .inv .1) (c .wrapping-add-u8 .ensures),
+      c .before .before .before .put-pair .ensures
+          ∙ put-goes-on values _ (turn .loop-test .taken) _ _ (turn .before .before .before .before .pre) (turn .before .loop .inv .2),
+      c .before .before .before .put-pair .kept .0 ∙ turn .before .loop .inv .3,
+    )
+
+same-length : tie.Need-same-length Inv-loop μ-loop
+same-length c = c .before .loop .inv .3
+
+returns : tie.Need-returns Inv-loop μ-loop
+returns c =
+    let start = c .before .before .before .before in
+    let values = now (start .args .values) in
+    let all : take (c .before .loop .i) values ≡ values = take-all _ values (c .loop-test .left) in
+    let end = le-antisymm (c .before .loop .inv .0) (c .loop-test .left) in (
+      c .before .loop .inv .1 ∙ ap sumOf all,
+      c .before .loop .inv .2 ∙ ap (λ l. digitsOf l ++ drop (2 * c .before .loop .i) (now (start .args .out))) all ∙ ap (λ n. digitsOf values ++ drop (2 * n) (now (start .args .out))) end,
+    )
+
+pub put-pairs-spec : {M : Type 1} → statement M
+put-pairs-spec =
+    tie.close
+    (tie.spec
+    Inv-loop
+    μ-loop
+    loop-holds
+    shared-slice-read-v
+    put-pair-requires
+    wrapping-add-u8-requires
+    add-i
+    loop-less
+    loop-again
+    same-length
+    returns)

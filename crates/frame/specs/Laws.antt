@@ -1,0 +1,76 @@
+-- What document 01's reader and writer owe each other, as statements over the definitions of this folder. Each is the promise of
+-- a function of `src/laws.rt`, so the gate names it when it is proved.
+--     DigitsAreInverse     the digit's rule for reading and the one for writing are inverse to each other
+--     CheckComesToZero     the check of every written line comes to 0
+--     LengthsAreKnown      a written line has two bytes a value and three more: 9, 17, 9 and 11 for 01, 03, 04 and 05
+--     WrittenIsReadBack    what is written of four pairs is read back as the same numbers, whatever follows it
+--     AcceptedIsWritten    every line that is accepted is, byte for byte, what would be written of its numbers
+--     RefusalsGoByOrder    each refusal is given exactly when its condition holds and those before it do not; there is no other
+--     OnlyOneAnswerFits    two answers that meet the contract of a public function are one
+use Prim.Native.Nat.{ℕ, _+_, _*_, _<_}
+use mathlib.Core.Path.{_≡_}
+use mathlib.Core.Logic.{_↔_, _⊎_, _≢_}
+use mathlib.Core.Bool.{Bool, true, false}
+use mathlib.Core.List.{List, [], _∷_, _++_}
+use lib.ListN.{length, take}
+use Rattle.frame.specs.declared.Line.{Line}
+use Rattle.frame.specs.Pairs.{isDigit, valueOf, digitOf, pairAt, pairsFrom, sumOf, checkOf}
+use Rattle.frame.specs.Reading.{told, isTorn, areDigits, readAs, kindOf, reads, restOf}
+use Rattle.frame.specs.Writing.{lineOf, writes, leaves, headerLine, rowLine, countLine, refusalLine}
+
+pub record DigitsAreInverse : Type 0 where
+  pub written-then-read : (v : ℕ) → v < 16 → (isDigit (digitOf v) ≡ true) × (valueOf (digitOf v) ≡ v)
+  pub read-then-written : (b : ℕ) → isDigit b ≡ true → (valueOf b < 16) × (digitOf (valueOf b) ≡ b)
+
+abbrev pub CheckComesToZero : Type 0
+CheckComesToZero = (vs : List ℕ) → sumOf (vs ++ (checkOf vs ∷ [])) ≡ 0
+
+pub record LengthsAreKnown : Type 0 where
+  pub any : (vs : List ℕ) → length (lineOf vs) ≡ 2 * length vs + 3
+  pub header : (edition n : ℕ) → length (headerLine edition n) ≡ 9
+  pub row : (processor place tail locked next marks : ℕ) → length (rowLine processor place tail locked next marks) ≡ 17
+  pub count : (high low : ℕ) → length (countLine high low) ≡ 9
+  pub refusal : (refusal high low : ℕ) → length (refusalLine refusal high low) ≡ 11
+
+abbrev pub WrittenIsReadBack : Type 0
+WrittenIsReadBack =
+    (isFirst : Bool) (first second : ℕ) (after : List ℕ) → first < 256 → second < 256 →
+    reads (lineOf (kindOf isFirst ∷ first ∷ second ∷ []) ++ after) isFirst
+    ≡ record {
+      refusal = 0;
+      numbers = kindOf isFirst ∷ first ∷ second ∷ checkOf (kindOf isFirst ∷ first ∷ second ∷ []) ∷ [];
+    }
+
+abbrev pub AcceptedIsWritten : Type 0
+AcceptedIsWritten =
+    (text : List ℕ) (isFirst : Bool) (kind first second check : ℕ) →
+    reads text isFirst ≡ record { refusal = 0; numbers = kind ∷ first ∷ second ∷ check ∷ [] } →
+    take 9 text ≡ lineOf (kind ∷ first ∷ second ∷ [])
+
+-- The refusal of a line of k pairs that is to begin with the pair `kind`. A torn line is 2; of a whole one, what is not digits
+-- is 3; of digits, a sum that is not 0 is 4; of those with the sum 0, another beginning is 5; and 0 is what is left.
+pub record ByOrder (k kind : ℕ) (text : List ℕ) : Type 0 where
+  pub two : (readAs k kind text .refusal ≡ 2) ↔ (isTorn k text ≡ true)
+  pub three : (readAs k kind text .refusal ≡ 3) ↔ ((isTorn k text ≡ false) × (areDigits k text ≡ false))
+  pub four : (readAs k kind text .refusal ≡ 4)
+      ↔ ((isTorn k text ≡ false) × (areDigits k text ≡ true) × (sumOf (pairsFrom 0 k text) ≢ 0))
+  pub five : (readAs k kind text .refusal ≡ 5)
+      ↔ ((isTorn k text ≡ false) × (areDigits k text ≡ true) × (sumOf (pairsFrom 0 k text) ≡ 0) × (pairAt text 0 ≢ kind))
+  pub none : (readAs k kind text .refusal ≡ 0)
+      ↔ ((isTorn k text ≡ false) × (areDigits k text ≡ true) × (sumOf (pairsFrom 0 k text) ≡ 0) × (pairAt text 0 ≡ kind))
+  pub no-other : (readAs k kind text .refusal ≡ 0)
+      ⊎ (readAs k kind text .refusal ≡ 2)
+      ⊎ (readAs k kind text .refusal ≡ 3)
+      ⊎ (readAs k kind text .refusal ≡ 4)
+      ⊎ (readAs k kind text .refusal ≡ 5)
+
+abbrev pub RefusalsGoByOrder : Type 0
+RefusalsGoByOrder = (k kind : ℕ) (text : List ℕ) → ByOrder k kind text
+
+-- `read`, by what its answer says; `rest`; and every `write` function, whose line is a definition of its values alone
+pub record OnlyOneAnswerFits : Type 0 where
+  pub to-read : (text : List ℕ) (isFirst : Bool) (r s : Line) → told r ≡ reads text isFirst → told s ≡ reads text isFirst → r ≡ s
+  pub to-rest : (text r s : List ℕ) → r ≡ restOf text → s ≡ restOf text → r ≡ s
+  pub to-write : (line buffer : List ℕ) (r s : ℕ) (left kept : List ℕ) →
+      r ≡ writes line buffer → left ≡ leaves line buffer → s ≡ writes line buffer → kept ≡ leaves line buffer →
+      (r ≡ s) × (left ≡ kept)

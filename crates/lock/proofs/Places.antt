@@ -1,0 +1,95 @@
+-- Places by number: the constant table's rule, by one computed test, and the act that a place's number names.
+--     has-right      the table of 23 rows and 3 columns is document 01's three lists
+--     has-beyond     no edition has a place past the table
+--     at-place       a step at the place k does the act of k's name
+--     at-nowhere     a step at a number that is no place does nothing
+use Prim.Native.Nat.{ℕ, _<_, _≤_}
+use native.Mathlib.Omega.{arith}
+use mathlib.Core.Path.{_≡_, refl, sym, _∙_, ap}
+use mathlib.Core.Bool.{Bool, true, false, _&&_, _||_, Bool·beq, false≢true}
+use mathlib.Core.List.{List, [], _∷_}
+use lib.ListN.{length, getD, List·getD-eq-default}
+use lib.Dec.{eqb, ltb}
+use borrow.Author.Tests.{ltb-true, ne-eqb, le-ltb}
+use Rattle.lock.specs.declared.Row.{Row}
+use Rattle.lock.specs.declared.LockState.{LockState}
+use Rattle.lock.specs.Choice.{pick, every}
+use Rattle.lock.specs.State.{row}
+use Rattle.lock.specs.Sound.{isIn, plainPlaces, drawnPlaces, hasPlace, places}
+use Rattle.lock.specs.Table.{Place, names, placeAt, act, stepped, nowhere}
+use Rattle.lock.proofs.Every.{every-at, beq-eq, and-left, and-right, Avoids, avoids-far}
+
+-- the code's constant, once more: the check holds the two together at the function that reads it
+abbrev pub has : List (List Bool)
+has =
+    (true ∷ true ∷ true ∷ [])
+    ∷ (false ∷ false ∷ true ∷ [])
+    ∷ (true ∷ true ∷ true ∷ [])
+    ∷ (true ∷ true ∷ true ∷ [])
+    ∷ (true ∷ true ∷ true ∷ [])
+    ∷ (true ∷ true ∷ true ∷ [])
+    ∷ (false ∷ true ∷ true ∷ [])
+    ∷ (true ∷ true ∷ true ∷ [])
+    ∷ (false ∷ true ∷ true ∷ [])
+    ∷ (true ∷ true ∷ true ∷ [])
+    ∷ (false ∷ true ∷ true ∷ [])
+    ∷ (false ∷ true ∷ true ∷ [])
+    ∷ (false ∷ true ∷ true ∷ [])
+    ∷ (false ∷ true ∷ true ∷ [])
+    ∷ (true ∷ true ∷ true ∷ [])
+    ∷ (true ∷ true ∷ true ∷ [])
+    ∷ (true ∷ true ∷ true ∷ [])
+    ∷ (true ∷ true ∷ true ∷ [])
+    ∷ (false ∷ false ∷ true ∷ [])
+    ∷ (false ∷ true ∷ true ∷ [])
+    ∷ (false ∷ true ∷ true ∷ [])
+    ∷ (false ∷ true ∷ true ∷ [])
+    ∷ (false ∷ false ∷ true ∷ [])
+    ∷ []
+
+all-right : every 23 (λ k. every 3 (λ e. Bool·beq (getD (getD has k []) e false) (hasPlace e k))) ≡ true
+unfolding every hasPlace
+all-right = refl
+
+pub has-right : (e k : ℕ) → k < 23 → e < 3 → getD (getD has k []) e false ≡ hasPlace e k
+has-right e k hk he =
+    let f : ℕ → ℕ → Bool = λ k e. Bool·beq (getD (getD has k []) e false) (hasPlace e k) in
+    beq-eq _ _ (every-at 3 (f k) (every-at 23 (λ k. every 3 (f k)) all-right k hk) e he)
+
+-- every number of the list is below b
+abbrev below : ℕ → List ℕ → Bool
+below b [] = true
+below b (x ∷ xs) = ltb x b && below b xs
+
+not-in : (b k : ℕ) (xs : List ℕ) → below b xs ≡ true → b ≤ k → isIn xs k ≡ false
+not-in b k [] e h = refl
+not-in b k (x ∷ xs) e h =
+    let small : x < b = ltb-true x b (and-left (ltb x b) (below b xs) e) in
+    simp (ne-eqb x k (λ q. omega arith)) (not-in b k xs (and-right (ltb x b) (below b xs) e) h)
+
+-- whichever edition it is
+past : (a b c : Bool) (x y z : Bool) → x ≡ false → y ≡ false → z ≡ false → false ≡ pick a x (pick b y (pick c z false))
+past true b c x y z ex ey ez = sym ex
+past false true c x y z ex ey ez = sym ey
+past false false true x y z ex ey ez = sym ez
+past false false false x y z ex ey ez = refl
+
+pub has-beyond : (e k : ℕ) → 23 ≤ k → false ≡ hasPlace e k
+unfolding hasPlace
+has-beyond e k h =
+    past (eqb e 0) (eqb e 1) (eqb e 2) (isIn plainPlaces k) (isIn drawnPlaces k) (ltb k places)
+    (not-in 23 k plainPlaces refl h) (not-in 23 k drawnPlaces refl h) (le-ltb k 23 h)
+
+pub has-none : (e k : ℕ) → 3 ≤ e → false ≡ hasPlace e k
+unfolding hasPlace
+has-none e k h = simp (ne-eqb e 0 (λ q. omega arith), ne-eqb e 1 (λ q. omega arith), ne-eqb e 2 (λ q. omega arith))
+
+pub at-place : (s : LockState) (p k : ℕ) (own : Row) (P : Place) (t : LockState) → own ≡ row s p → own .place ≡ k → placeAt k ≡ P → t ≡ act P s p → t ≡ stepped s p
+unfolding stepped
+at-place s p k own P t e q n d =
+    let number : (row s p) .place ≡ k = ap (λ (r : Row). r .place) (sym e) ∙ q in
+    d ∙ ap (λ (P : Place). act P s p) (sym n ∙ ap placeAt (sym number))
+
+pub at-nowhere : (s : LockState) (p : ℕ) (own : Row) → own ≡ row s p → Avoids (own .place) 23 → s ≡ stepped s p
+at-nowhere s p own e a =
+    at-place s p (own .place) own nowhere s e refl (List·getD-eq-default names nowhere (avoids-far (own .place) 23 a)) refl

@@ -1,0 +1,126 @@
+// The soundness test, part by part as in specs/Sound.
+use crate::LockState;
+use crate::Row;
+ghost use mathlib.Core.Path.{_≡_};
+ghost use Rattle.lock.specs.Sound as Sound;
+ghost use Rattle.lock.specs.Choice.{every};
+ghost use Rattle.lock.specs.State.{processors};
+
+// Which places an edition has: a row for each place, a column for each edition (plain, drawn, guarded).
+const HAS: [[bool; 3]; 23] = [
+    [true, true, true],
+    [false, false, true],
+    [true, true, true],
+    [true, true, true],
+    [true, true, true],
+    [true, true, true],
+    [false, true, true],
+    [true, true, true],
+    [false, true, true],
+    [true, true, true],
+    [false, true, true],
+    [false, true, true],
+    [false, true, true],
+    [false, true, true],
+    [true, true, true],
+    [true, true, true],
+    [true, true, true],
+    [true, true, true],
+    [false, false, true],
+    [false, true, true],
+    [false, true, true],
+    [false, true, true],
+    [false, false, true],
+];
+
+fn has_place(edition: u8, place: u8) -> bool
+    ensures { λ b. ⌜ b ≡ Sound.hasPlace edition place ⌝ }
+{
+    if place < LockState::PLACES {
+        if edition < 3 {
+            return HAS[place as usize][edition as usize];
+        }
+    }
+    false
+}
+
+fn none_or_below(n: u8, q: u8) -> bool
+    ensures { λ b. ⌜ b ≡ Sound.noneOrBelow n q ⌝ }
+{
+    (q == LockState::NONE) | (q < n)
+}
+
+fn is_there(wanted: bool, q: u8) -> bool
+    ensures { λ b. ⌜ b ≡ Sound.isThere wanted q ⌝ }
+{
+    !wanted | !(q == LockState::NONE)
+}
+
+fn cells_sound(n: u8, r: Row) -> bool
+    ensures { λ b. ⌜ b ≡ Sound.cellsSound n r ⌝ }
+{
+    none_or_below(n, r.next)
+        & none_or_below(n, r.pred)
+        & none_or_below(n, r.succ)
+        & none_or_below(n, r.nx)
+        & (r.locked <= 3)
+}
+
+fn place_sound(edition: u8, r: Row) -> bool
+    ensures { λ b. ⌜ b ≡ Sound.placeSound edition r ⌝ }
+{
+    let k = r.place;
+    has_place(edition, k)
+        & is_there((4 <= k) & (k <= 6), r.pred)
+        & is_there((17 <= k) & (k <= 22), r.succ)
+        & is_there(k == 21, r.nx)
+}
+
+fn as_fresh(r: Row) -> bool
+    ensures { λ b. ⌜ b ≡ Sound.asFresh r ⌝ }
+{
+    (r.next == LockState::NONE)
+        & (r.locked == 0)
+        & !r.guard
+        & !r.flag
+        & (r.place == 0)
+        & (r.pred == LockState::NONE)
+        & (r.succ == LockState::NONE)
+        & (r.nx == LockState::NONE)
+}
+
+impl LockState {
+    fn sound_row(self, i: u8) -> bool
+        ensures { λ b. ⌜ b ≡ Sound.soundRow self i ⌝ }
+    {
+        let r = self.row(i);
+        let used = i < self.n;
+        if used {
+            cells_sound(self.n, r) & place_sound(self.edition, r)
+        } else {
+            as_fresh(r)
+        }
+    }
+
+    fn sound_rows(self) -> bool
+        ensures { λ b. ⌜ b ≡ every processors (Sound.soundRow self) ⌝ }
+    {
+        let mut ok = true;
+        let mut i = 0;
+        while i < LockState::PROCESSORS {
+            ok = ok & self.sound_row(i);
+            i += 1;
+        }
+        ok
+    }
+
+    pub fn is_sound(self) -> bool
+        ensures { λ b. ⌜ b ≡ Sound.sound self ⌝ }
+    {
+        (self.edition <= 2)
+            & (1 <= self.n)
+            & (self.n <= LockState::PROCESSORS)
+            & none_or_below(self.n, self.tail)
+            & self.sound_rows()
+    }
+}
