@@ -8,3 +8,5 @@ pub mod Event
 pub mod Run
 pub mod Count
 pub mod Claims
+pub mod Cases
+pub mod Unique

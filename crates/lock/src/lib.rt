@@ -6,6 +6,7 @@ ghost use Rattle.lock.specs.State.{freshState, row, putRow, putNext};
 mod acts;
 mod cells;
 mod event;
+pub mod laws;
 mod sound;
 mod table;
 
