@@ -1,6 +1,6 @@
 -- From values to a line and back, and from a line to values and back, for lines of any number of pairs.
 --     line-is-read      what is written of byte values is read as those values and their check, whatever follows it
---     line-is-written   the bytes of a line that is whole, of digits and of sum 0 are what is written of its pairs but the last
+--     line-is-written   a line that is whole, of digits and of sum 0 is what is written of its pairs but the last
 -- Assumes nothing.
 use Prim.Native.Nat.{ℕ, suc, _+_, _*_, _<_, _≤_}
 use native.Mathlib.Numerals.{add-one}
@@ -16,7 +16,8 @@ use Rattle.frame.specs.Reading.{isTorn, areDigits, readAs, bytesOf}
 use Rattle.frame.specs.Writing.{digitsOf, lineOf}
 use Rattle.frame.proofs.Digits.{pair-below, pair-of-digits}
 use Rattle.frame.proofs.Sums.{sum-with-check, check-is-only}
-use Rattle.frame.proofs.Lines.{Bytes, digit-within, pairs-last, digits-length, digits-are-digits, pairs-of-digits, digits-of-pairs}
+use Rattle.frame.proofs.Lines.{Bytes, digit-within, pairs-last, digits-length}
+use Rattle.frame.proofs.Lines.{digits-are-digits, pairs-of-digits, digits-of-pairs}
 use Rattle.frame.proofs.Refusals.{whole-line, is-accepted}
 
 bytes-last : (vs : List ℕ) (v : ℕ) → Bytes vs → v < 256 → Bytes (vs ++ (v ∷ []))

@@ -2,17 +2,16 @@
 --     put-next     one byte is written behind what is written so far; the bytes after it are as they were
 --     put-value    the same of a value's two digits
 --     put-goes-on, total-goes-on   the turn of a loop over the values
---     is-refused, is-written, leaves-line   the whole line: no room for it, room for it, and what the buffer holds then
+--     writes-room, writes-short, leaves-room, leaves-short   what is answered and left, with room and without
+--     is-refused, is-written, leaves-line   the same of a line of values, as `write` comes to it
 -- Assumes nothing.
 use Prim.Native.Nat.{ℕ, suc, _+_, _*_, _/_, _%_, _<_, _≤_}
 use native.Mathlib.Numerals.{add-one}
 use native.Mathlib.Omega.{arith}
 use mathlib.Core.Path.{_≡_, refl, sym, ap, _∙_}
-use mathlib.Core.Bool.{true, false}
 use mathlib.Core.List.{List, [], _∷_, _++_, append-assoc}
 use lib.ListN.{length, getD, take, drop, set, length-append}
 use lib.Seq.{drop-cons, set-at, append-snoc, take-suc, length-take-le}
-use lib.Dec.{leb}
 use borrow.Author.Tests.{le-leb, lt-leb}
 use Rattle.frame.specs.Pairs.{lineFeed, digitOf, sumOf, checkOf}
 use Rattle.frame.specs.Writing.{digitsOf, lineOf, writes, leaves}
@@ -27,9 +26,11 @@ put-next written buffer n v e h =
     ∙ sym (append-snoc written v (drop (suc n) buffer))
     ∙ ap (λ (m : ℕ). (written ++ (v ∷ [])) ++ drop m buffer) (sym (add-one n))
 
-two-digits : (vs : List ℕ) (v : ℕ) → (digitsOf vs ++ (digitOf (v / 16) ∷ [])) ++ (digitOf (v % 16) ∷ []) ≡ digitsOf (vs ++ (v ∷ []))
+two-digits : (vs : List ℕ) (v : ℕ) →
+    (digitsOf vs ++ (digitOf (v / 16) ∷ [])) ++ (digitOf (v % 16) ∷ []) ≡ digitsOf (vs ++ (v ∷ []))
 unfolding digitsOf
-two-digits vs v = append-assoc (digitsOf vs) (digitOf (v / 16) ∷ []) (digitOf (v % 16) ∷ []) ∙ sym (digits-append vs (v ∷ []))
+two-digits vs v =
+    append-assoc (digitsOf vs) (digitOf (v / 16) ∷ []) (digitOf (v % 16) ∷ []) ∙ sym (digits-append vs (v ∷ []))
 
 pub put-value : (vs buffer : List ℕ) (n v : ℕ) → length vs ≡ n → 2 * n + 1 < length buffer →
     set (set (digitsOf vs ++ drop (2 * n) buffer) (2 * n) (digitOf (v / 16))) (2 * n + 1) (digitOf (v % 16))
@@ -38,7 +39,8 @@ put-value vs buffer n v e h =
     let high = digitOf (v / 16) in
     let low = digitOf (v % 16) in
     let long : length (digitsOf vs) ≡ 2 * n = digits-length vs ∙ ap (λ (m : ℕ). 2 * m) e in
-    let longer : length (digitsOf vs ++ (high ∷ [])) ≡ 2 * n + 1 = length-append (digitsOf vs) (high ∷ []) ∙ ap (λ (m : ℕ). m + 1) long in
+    let longer : length (digitsOf vs ++ (high ∷ [])) ≡ 2 * n + 1 =
+    length-append (digitsOf vs) (high ∷ []) ∙ ap (λ (m : ℕ). m + 1) long in
     let further : 2 * n + 1 + 1 ≡ 2 * n + 2 = omega arith in
     ap (λ (l : List ℕ). set l (2 * n + 1) low) (put-next (digitsOf vs) buffer (2 * n) high long (omega arith))
     ∙ put-next (digitsOf vs ++ (high ∷ [])) buffer (2 * n + 1) low longer h
@@ -50,7 +52,8 @@ module _ (values : List ℕ) (i : ℕ) (h : i < length values) where
   taken : take i values ++ (getD values i 0 ∷ []) ≡ take (i + 1) values
   taken = sym (take-suc values i 0 h) ∙ ap (λ (m : ℕ). take m values) (sym (add-one i))
 
-  pub put-goes-on : (buffer out : List ℕ) → 2 * length values ≤ length buffer → out ≡ digitsOf (take i values) ++ drop (2 * i) buffer →
+  pub put-goes-on : (buffer out : List ℕ) → 2 * length values ≤ length buffer →
+      out ≡ digitsOf (take i values) ++ drop (2 * i) buffer →
       set (set out (2 * i) (digitOf (getD values i 0 / 16))) (2 * i + 1) (digitOf (getD values i 0 % 16))
       ≡ digitsOf (take (i + 1) values) ++ drop (2 * (i + 1)) buffer
   put-goes-on buffer out room so =
@@ -64,44 +67,68 @@ module _ (values : List ℕ) (i : ℕ) (h : i < length values) where
   pub total-goes-on : (total next : ℕ) → total ≡ sumOf (take i values) → next ≡ (total + getD values i 0) % 256 →
       next ≡ sumOf (take (i + 1) values)
   total-goes-on total next so e =
-      e ∙ ap (λ (n : ℕ). (n + getD values i 0) % 256) so ∙ sym (sum-of-last (take i values) (getD values i 0)) ∙ ap sumOf taken
+      e
+      ∙ ap (λ (n : ℕ). (n + getD values i 0) % 256) so
+      ∙ sym (sum-of-last (take i values) (getD values i 0))
+      ∙ ap sumOf taken
+
+-- any line and any buffer: where it fits, where it does not
+module _ (line buffer : List ℕ) where
+  pub writes-room : length line ≤ length buffer → writes line buffer ≡ 0
+  writes-room h = simp (le-leb (length line) (length buffer) h)
+
+  pub writes-short : length buffer < length line → writes line buffer ≡ 10
+  writes-short h = simp (lt-leb (length line) (length buffer) h)
+
+  pub leaves-room : length line ≤ length buffer → leaves line buffer ≡ line ++ drop (length line) buffer
+  unfolding leaves
+  leaves-room h = simp (le-leb (length line) (length buffer) h)
+
+  pub leaves-short : length buffer < length line → leaves line buffer ≡ buffer
+  unfolding leaves
+  leaves-short h = simp (lt-leb (length line) (length buffer) h)
 
 -- the whole line: the digits of the values, the check's, the line feed
 module _ (vs buffer : List ℕ) where
-  pub is-refused : length buffer < 2 * length vs + 3 → (10 ≡ writes (lineOf vs) buffer) × (buffer ≡ leaves (lineOf vs) buffer)
-  unfolding leaves
+  pub is-refused : length buffer < 2 * length vs + 3 →
+      (10 ≡ writes (lineOf vs) buffer) × (buffer ≡ leaves (lineOf vs) buffer)
   is-refused h =
-      let short : leb (length (lineOf vs)) (length buffer) ≡ false = lt-leb (length (lineOf vs)) (length buffer) (rw (line-length vs) h) in
-      (simp short, simp short)
+      let short : length buffer < length (lineOf vs) = rw (line-length vs) h in
+      (sym (writes-short (lineOf vs) buffer short), sym (leaves-short (lineOf vs) buffer short))
 
   module _ (room : 2 * length vs + 3 ≤ length buffer) where
-    fits : leb (length (lineOf vs)) (length buffer) ≡ true
-    fits = le-leb (length (lineOf vs)) (length buffer) (rw (line-length vs) room)
+    fits : length (lineOf vs) ≤ length buffer
+    fits = rw (line-length vs) room
 
     pub is-written : 0 ≡ writes (lineOf vs) buffer
-    is-written = simp fits
+    is-written = sym (writes-room (lineOf vs) buffer fits)
 
     put-line : set (digitsOf (vs ++ (checkOf vs ∷ [])) ++ drop (2 * length vs + 2) buffer) (2 * length vs + 2) lineFeed
         ≡ leaves (lineOf vs) buffer
-    unfolding leaves lineOf
+    unfolding lineOf
     put-line =
         let all = digitsOf (vs ++ (checkOf vs ∷ [])) in
-        let long : length all ≡ 2 * length vs + 2 = digits-length (vs ++ (checkOf vs ∷ [])) ∙ ap (λ (n : ℕ). 2 * n) (length-append vs (checkOf vs ∷ [])) ∙ omega arith in
+        let count = length-append vs (checkOf vs ∷ []) in
+        let long : length all ≡ 2 * length vs + 2 =
+        digits-length (vs ++ (checkOf vs ∷ [])) ∙ ap (λ (n : ℕ). 2 * n) count ∙ omega arith in
         let end : 2 * length vs + 2 + 1 ≡ length (lineOf vs) = omega (arith, line-length vs) in
         put-next all buffer (2 * length vs + 2) lineFeed long (omega arith)
         ∙ ap (λ (n : ℕ). lineOf vs ++ drop n buffer) end
-        ∙ sym (simp fits)
+        ∙ sym (leaves-room (lineOf vs) buffer fits)
 
     -- after the values' digits are put, then those of what negates their sum, then the line feed
-    pub leaves-line : (total check : ℕ) (first second : List ℕ) → total ≡ sumOf vs → check < 256 → (check + total) % 256 ≡ 0 →
+    pub leaves-line : (total check : ℕ) (first second : List ℕ) →
+        total ≡ sumOf vs → check < 256 → (check + total) % 256 ≡ 0 →
         first ≡ digitsOf vs ++ drop (2 * length vs) buffer →
         second ≡ set (set first (2 * length vs) (digitOf (check / 16))) (2 * length vs + 1) (digitOf (check % 16)) →
         set second (2 * length vs + 2) lineFeed ≡ leaves (lineOf vs) buffer
     leaves-line total check first second sum byte zero e f =
-        let is-check : check ≡ checkOf vs = negated-is-check vs check byte (ap (λ (n : ℕ). (check + n) % 256) (sym sum) ∙ zero) in
+        let n = length vs in
+        let is-check : check ≡ checkOf vs =
+        negated-is-check vs check byte (ap (λ (n : ℕ). (check + n) % 256) (sym sum) ∙ zero) in
         ap (λ (l : List ℕ). set l (2 * length vs + 2) lineFeed)
         (f
-        ∙ ap (λ (l : List ℕ). set (set l (2 * length vs) (digitOf (check / 16))) (2 * length vs + 1) (digitOf (check % 16))) e
+        ∙ ap (λ (l : List ℕ). set (set l (2 * n) (digitOf (check / 16))) (2 * n + 1) (digitOf (check % 16))) e
         ∙ put-value vs buffer (length vs) check refl (omega arith)
         ∙ ap (λ (n : ℕ). digitsOf (vs ++ (n ∷ [])) ++ drop (2 * length vs + 2) buffer) is-check)
         ∙ put-line

@@ -1,5 +1,5 @@
--- The digit's rule for reading beside its rule for writing, and pairs of digits. Both rules together are one computed test of
--- every value below 16, and one of every byte up to F.
+-- The digit's rule for reading beside its rule for writing, and pairs of digits. Both rules together are one computed
+-- test of every value below 16, and one of every byte up to F.
 --     digit-low, digit-high     the bounds of a digit up to 9, and of one above
 --     digit-is-digit            the digit of v is a digit
 --     value-of-digit            and stands for v
@@ -51,7 +51,8 @@ all-back = refl
 
 pub digit-is-digit : (v : ℕ) → v < 16 → isDigit (digitOf v) ≡ true
 unfolding back
-digit-is-digit v h = and-eq-true-iff (isDigit (digitOf v)) (eqb (valueOf (digitOf v)) v) .0 (every-at 16 back all-back v h) .0
+digit-is-digit v h =
+    and-eq-true-iff (isDigit (digitOf v)) (eqb (valueOf (digitOf v)) v) .0 (every-at 16 back all-back v h) .0
 
 pub value-of-digit : (v : ℕ) → v < 16 → valueOf (digitOf v) ≡ v
 unfolding back

@@ -23,9 +23,13 @@ every-at (suc n) f e i h =
 pub every-all : (n : ℕ) (f : ℕ → Bool) → ((i : ℕ) → i < n → f i ≡ true) → every n f ≡ true
 unfolding every
 every-all zero f h = refl
-every-all (suc n) f h = and-eq-true-iff (every n f) (f n) .1 (every-all n f (λ i l. h i (omega arith)), h n (omega arith))
+every-all (suc n) f h =
+    and-eq-true-iff (every n f) (f n) .1 (every-all n f (λ i l. h i (omega arith)), h n (omega arith))
 
-pub every-next : (n : ℕ) (f : ℕ → Bool) (all here : Bool) → all ≡ every n f → here ≡ f n → all && here ≡ every (n + 1) f
+pub every-next : (n : ℕ) (f : ℕ → Bool) (all here : Bool) →
+    all ≡ every n f → here ≡ f n → all && here ≡ every (n + 1) f
 unfolding every
 every-next n f all here so now =
-    ap (λ (b : Bool). b && here) so ∙ ap (λ (b : Bool). every n f && b) now ∙ ap (λ (m : ℕ). every m f) (sym (add-one n))
+    ap (λ (b : Bool). b && here) so
+    ∙ ap (λ (b : Bool). every n f && b) now
+    ∙ ap (λ (m : ℕ). every m f) (sym (add-one n))

@@ -1,4 +1,4 @@
--- Laws that belong to no one function, from a test of every number up to the line.
+-- Laws that belong to no one function, from a test of every number up to the line, and document 01's worked lines.
 pub mod Every
 pub mod Digits
 pub mod Sums
@@ -7,3 +7,4 @@ pub mod Buffers
 pub mod Refusals
 pub mod Back
 pub mod Proved
+pub mod Worked

@@ -29,7 +29,8 @@ abbrev pub Bytes : List ℕ → Type 0
 Bytes [] = Unit {0}
 Bytes (v ∷ vs) = (v < 256) × Bytes vs
 
-pub digit-within : (k : ℕ) (text : List ℕ) → areDigits k text ≡ true → (i : ℕ) → i < 2 * k → isDigit (byteAt text i) ≡ true
+pub digit-within : (k : ℕ) (text : List ℕ) → areDigits k text ≡ true →
+    (i : ℕ) → i < 2 * k → isDigit (byteAt text i) ≡ true
 unfolding areDigits
 digit-within k text e i h = every-at (2 * k) (λ b. isDigit (byteAt text b)) e i h
 
@@ -88,17 +89,21 @@ digit-at (v ∷ vs) text h (suc (suc i)) l = digit-at vs text (h .1) i (omega ar
 
 pub digits-are-digits : (vs text : List ℕ) → Bytes vs → areDigits (length vs) (digitsOf vs ++ text) ≡ true
 unfolding areDigits
-digits-are-digits vs text h = every-all (2 * length vs) (λ i. isDigit (byteAt (digitsOf vs ++ text) i)) (digit-at vs text h)
+digits-are-digits vs text h =
+    every-all (2 * length vs) (λ i. isDigit (byteAt (digitsOf vs ++ text) i)) (digit-at vs text h)
 
 pub pairs-of-digits : (vs text : List ℕ) → Bytes vs → pairsFrom 0 (length vs) (digitsOf vs ++ text) ≡ vs
 unfolding pairsFrom pairAt digitsOf
 pairs-of-digits [] text h = refl
 pairs-of-digits (v ∷ vs) text h =
-    ap (λ (n : ℕ). n ∷ pairsFrom 1 (length vs) (digitOf (v / 16) ∷ digitOf (v % 16) ∷ digitsOf vs ++ text)) (pair-of-digits v (h .0))
+    let high = digitOf (v / 16) in
+    let low = digitOf (v % 16) in
+    ap (λ (n : ℕ). n ∷ pairsFrom 1 (length vs) (high ∷ low ∷ digitsOf vs ++ text)) (pair-of-digits v (h .0))
     ∙ ap (λ (l : List ℕ). v ∷ l)
-    (pairs-shift (digitOf (v / 16)) (digitOf (v % 16)) (digitsOf vs ++ text) 0 (length vs) ∙ pairs-of-digits vs text (h .1))
+    (pairs-shift high low (digitsOf vs ++ text) 0 (length vs) ∙ pairs-of-digits vs text (h .1))
 
-pub digits-of-pairs : (k : ℕ) (text : List ℕ) → 2 * k ≤ length text → ((i : ℕ) → i < 2 * k → isDigit (byteAt text i) ≡ true) →
+pub digits-of-pairs : (k : ℕ) (text : List ℕ) → 2 * k ≤ length text →
+    ((i : ℕ) → i < 2 * k → isDigit (byteAt text i) ≡ true) →
     digitsOf (pairsFrom 0 k text) ≡ take (2 * k) text
 unfolding pairsFrom pairAt digitsOf
 digits-of-pairs zero text h d = refl

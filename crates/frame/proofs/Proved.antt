@@ -10,7 +10,8 @@ use Rattle.frame.specs.declared.Line.the-variants.{Frame, Refused}
 use Rattle.frame.specs.Pairs.{pairsFrom}
 use Rattle.frame.specs.Reading.{told, kindOf}
 use Rattle.frame.specs.Writing.{digitsOf, lineOf}
-use Rattle.frame.specs.Laws.{DigitsAreInverse, CheckComesToZero, LengthsAreKnown, WrittenIsReadBack, AcceptedIsWritten, OnlyOneAnswerFits}
+use Rattle.frame.specs.Laws.{DigitsAreInverse, CheckComesToZero, LengthsAreKnown}
+use Rattle.frame.specs.Laws.{WrittenIsReadBack, AcceptedIsWritten, OnlyOneAnswerFits}
 use Rattle.frame.proofs.Digits.{digit-is-digit, value-of-digit, value-below, digit-of-value}
 use Rattle.frame.proofs.Sums.{sum-with-check}
 use Rattle.frame.proofs.Lines.{line-length}
@@ -46,7 +47,8 @@ pub written-is-read-back : WrittenIsReadBack
 written-is-read-back isFirst first second after f s =
     line-is-read (kindOf isFirst) (first ∷ second ∷ []) after (kind-below isFirst, (f, (s, tt)))
 
-first-three : (text : List ℕ) (a b c d : ℕ) → pairsFrom 0 4 text ≡ a ∷ b ∷ c ∷ d ∷ [] → pairsFrom 0 3 text ≡ a ∷ b ∷ c ∷ []
+first-three : (text : List ℕ) (a b c d : ℕ) →
+    pairsFrom 0 4 text ≡ a ∷ b ∷ c ∷ d ∷ [] → pairsFrom 0 3 text ≡ a ∷ b ∷ c ∷ []
 unfolding pairsFrom
 first-three text a b c d e = cc
 

@@ -1,8 +1,8 @@
 -- The reader's refusals, by their order.
 --     whole-line      a line that is not torn has all its bytes, and ends in a line feed
 --     pair-ready      in a whole line of digits every pair can be read
+--     is-two .. is-five, is-accepted   an answer from its condition and those before it
 --     refused-says    a refusal is its number and no frame
---     is-two .. is-five, is-none   a refusal from its condition and those before it
 --     by-order        and back: each is given exactly then
 -- Assumes nothing.
 use Prim.Native.Nat.{ℕ, _+_, _*_, _<_, _≤_}
@@ -23,24 +23,28 @@ neither : (a b : Bool) → a || b ≡ false → (a ≡ false) × (b ≡ false)
 neither true b e = absurd (true≢false e)
 neither false b e = (refl, e)
 
-pub whole-line : (k : ℕ) (text : List ℕ) → isTorn k text ≡ false → (2 * k + 1 ≤ length text) × (byteAt text (2 * k) ≡ lineFeed)
+pub whole-line : (k : ℕ) (text : List ℕ) → isTorn k text ≡ false →
+    (2 * k + 1 ≤ length text) × (byteAt text (2 * k) ≡ lineFeed)
 unfolding isTorn
 whole-line k text e =
-    let both = neither (ltb (length text) (bytesOf k)) (not (eqb (byteAt text (2 * k)) lineFeed)) e in
-    (ltb-false (length text) (bytesOf k) (both .0), eqb-true (byteAt text (2 * k)) lineFeed (not-false (eqb (byteAt text (2 * k)) lineFeed) (both .1)))
+    let last = byteAt text (2 * k) in
+    let both = neither (ltb (length text) (bytesOf k)) (not (eqb last lineFeed)) e in
+    (ltb-false (length text) (bytesOf k) (both .0), eqb-true last lineFeed (not-false (eqb last lineFeed) (both .1)))
 
 pub pair-ready : (k : ℕ) (text : List ℕ) → isTorn k text ≡ false → areDigits k text ≡ true → (i : ℕ) → i < k →
     (2 * i + 1 < length text) × ((isDigit (byteAt text (2 * i)) ≡ true) × (isDigit (byteAt text (2 * i + 1)) ≡ true))
 pair-ready k text whole digits i h =
     let long = whole-line k text whole .0 in
-    (omega arith, (digit-within k text digits (2 * i) (omega arith), digit-within k text digits (2 * i + 1) (omega arith)))
+    let digit = digit-within k text digits in
+    (omega arith, (digit (2 * i) (omega arith), digit (2 * i + 1) (omega arith)))
 
 -- a chain of refusals that ends in a frame, where it does not come to the frame, says a number and nothing else
 abbrev chain : Bool → Bool → Bool → Bool → Told → Told
 chain two three four five frame =
     cond two (refusedBy 2) (cond three (refusedBy 3) (cond four (refusedBy 4) (cond five (refusedBy 5) frame)))
 
-chain-says : (two three four five : Bool) (frame : Told) → frame .refusal ≡ 0 → chain two three four five frame .refusal ≢ 0 →
+chain-says : (two three four five : Bool) (frame : Told) → frame .refusal ≡ 0 →
+    chain two three four five frame .refusal ≢ 0 →
     chain two three four five frame ≡ refusedBy (chain two three four five frame .refusal)
 chain-says true b c d frame z n = refl
 chain-says false true c d frame z n = refl
@@ -49,12 +53,6 @@ chain-says false false false true frame z n = refl
 chain-says false false false false frame z n = absurd (n z)
 
 module _ (k kind : ℕ) (text : List ℕ) where
-  pub refused-says : readAs k kind text .refusal ≢ 0 → readAs k kind text ≡ refusedBy (readAs k kind text .refusal)
-  unfolding readAs
-  refused-says n =
-      chain-says (isTorn k text) (not (areDigits k text)) (not (eqb (sumOf (pairsFrom 0 k text)) 0)) (not (eqb (pairAt text 0) kind))
-      (record { refusal = 0; numbers = pairsFrom 0 k text }) refl n
-
   pub is-two : isTorn k text ≡ true → readAs k kind text .refusal ≡ 2
   unfolding readAs
   is-two torn = simp torn
@@ -63,21 +61,31 @@ module _ (k kind : ℕ) (text : List ℕ) where
   unfolding readAs
   is-three whole bad = simp (whole, bad)
 
-  pub is-four : isTorn k text ≡ false → areDigits k text ≡ true → sumOf (pairsFrom 0 k text) ≢ 0 → readAs k kind text .refusal ≡ 4
+  pub is-four : isTorn k text ≡ false → areDigits k text ≡ true →
+      sumOf (pairsFrom 0 k text) ≢ 0 → readAs k kind text .refusal ≡ 4
   unfolding readAs
   is-four whole digits off = simp (whole, digits, ne-eqb (sumOf (pairsFrom 0 k text)) 0 off)
 
-  pub is-five : isTorn k text ≡ false → areDigits k text ≡ true → sumOf (pairsFrom 0 k text) ≡ 0 → pairAt text 0 ≢ kind →
-      readAs k kind text .refusal ≡ 5
+  pub is-five : isTorn k text ≡ false → areDigits k text ≡ true →
+      sumOf (pairsFrom 0 k text) ≡ 0 → pairAt text 0 ≢ kind → readAs k kind text .refusal ≡ 5
   unfolding readAs
   is-five whole digits summed other =
       simp (whole, digits, eq-eqb (sumOf (pairsFrom 0 k text)) 0 summed, ne-eqb (pairAt text 0) kind other)
 
-  pub is-accepted : isTorn k text ≡ false → areDigits k text ≡ true → sumOf (pairsFrom 0 k text) ≡ 0 → pairAt text 0 ≡ kind →
+  pub is-accepted : isTorn k text ≡ false → areDigits k text ≡ true →
+      sumOf (pairsFrom 0 k text) ≡ 0 → pairAt text 0 ≡ kind →
       readAs k kind text ≡ record { refusal = 0; numbers = pairsFrom 0 k text }
   unfolding readAs
   is-accepted whole digits summed begun =
       simp (whole, digits, eq-eqb (sumOf (pairsFrom 0 k text)) 0 summed, eq-eqb (pairAt text 0) kind begun)
+
+  pub refused-says : readAs k kind text .refusal ≢ 0 → readAs k kind text ≡ refusedBy (readAs k kind text .refusal)
+  unfolding readAs
+  refused-says n =
+      let four = not (eqb (sumOf (pairsFrom 0 k text)) 0) in
+      let five = not (eqb (pairAt text 0) kind) in
+      chain-says (isTorn k text) (not (areDigits k text)) four five
+      (record { refusal = 0; numbers = pairsFrom 0 k text }) refl n
 
 bool-cases : (b : Bool) → (b ≡ true) ⊎ (b ≡ false)
 bool-cases true = inl refl

@@ -1,11 +1,11 @@
--- What document 01's reader and writer owe each other, as statements over the definitions of this folder. Each is the promise of
--- a function of `src/laws.rt`, so the gate names it when it is proved.
+-- What document 01's reader and writer owe each other, as statements over the definitions of this folder. Each is the
+-- promise of a function of `src/laws.rt`, so the gate names it when it is proved.
 --     DigitsAreInverse     the digit's rule for reading and the one for writing are inverse to each other
 --     CheckComesToZero     the check of every written line comes to 0
 --     LengthsAreKnown      a written line has two bytes a value and three more: 9, 17, 9 and 11 for 01, 03, 04 and 05
 --     WrittenIsReadBack    what is written of four pairs is read back as the same numbers, whatever follows it
 --     AcceptedIsWritten    every line that is accepted is, byte for byte, what would be written of its numbers
---     RefusalsGoByOrder    each refusal is given exactly when its condition holds and those before it do not; there is no other
+--     RefusalsGoByOrder    each refusal is given exactly when its condition holds and those before it do not
 --     OnlyOneAnswerFits    two answers that meet the contract of a public function are one
 use Prim.Native.Nat.{ℕ, _+_, _*_, _<_}
 use mathlib.Core.Path.{_≡_}
@@ -47,17 +47,24 @@ AcceptedIsWritten =
     reads text isFirst ≡ record { refusal = 0; numbers = kind ∷ first ∷ second ∷ check ∷ [] } →
     take 9 text ≡ lineOf (kind ∷ first ∷ second ∷ [])
 
--- The refusal of a line of k pairs that is to begin with the pair `kind`. A torn line is 2; of a whole one, what is not digits
--- is 3; of digits, a sum that is not 0 is 4; of those with the sum 0, another beginning is 5; and 0 is what is left.
+-- The refusal of a line of k pairs that is to begin with the pair `kind`. A torn line is 2; of a whole one, what is not
+-- digits is 3; of digits, a sum that is not 0 is 4; of those with the sum 0, another beginning is 5; and 0, accepted,
+-- is what is left. There is no other number.
 pub record ByOrder (k kind : ℕ) (text : List ℕ) : Type 0 where
   pub two : (readAs k kind text .refusal ≡ 2) ↔ (isTorn k text ≡ true)
   pub three : (readAs k kind text .refusal ≡ 3) ↔ ((isTorn k text ≡ false) × (areDigits k text ≡ false))
   pub four : (readAs k kind text .refusal ≡ 4)
       ↔ ((isTorn k text ≡ false) × (areDigits k text ≡ true) × (sumOf (pairsFrom 0 k text) ≢ 0))
   pub five : (readAs k kind text .refusal ≡ 5)
-      ↔ ((isTorn k text ≡ false) × (areDigits k text ≡ true) × (sumOf (pairsFrom 0 k text) ≡ 0) × (pairAt text 0 ≢ kind))
+      ↔ ((isTorn k text ≡ false)
+      × (areDigits k text ≡ true)
+      × (sumOf (pairsFrom 0 k text) ≡ 0)
+      × (pairAt text 0 ≢ kind))
   pub none : (readAs k kind text .refusal ≡ 0)
-      ↔ ((isTorn k text ≡ false) × (areDigits k text ≡ true) × (sumOf (pairsFrom 0 k text) ≡ 0) × (pairAt text 0 ≡ kind))
+      ↔ ((isTorn k text ≡ false)
+      × (areDigits k text ≡ true)
+      × (sumOf (pairsFrom 0 k text) ≡ 0)
+      × (pairAt text 0 ≡ kind))
   pub no-other : (readAs k kind text .refusal ≡ 0)
       ⊎ (readAs k kind text .refusal ≡ 2)
       ⊎ (readAs k kind text .refusal ≡ 3)
@@ -69,7 +76,8 @@ RefusalsGoByOrder = (k kind : ℕ) (text : List ℕ) → ByOrder k kind text
 
 -- `read`, by what its answer says; `rest`; and every `write` function, whose line is a definition of its values alone
 pub record OnlyOneAnswerFits : Type 0 where
-  pub to-read : (text : List ℕ) (isFirst : Bool) (r s : Line) → told r ≡ reads text isFirst → told s ≡ reads text isFirst → r ≡ s
+  pub to-read : (text : List ℕ) (isFirst : Bool) (r s : Line) →
+      told r ≡ reads text isFirst → told s ≡ reads text isFirst → r ≡ s
   pub to-rest : (text r s : List ℕ) → r ≡ restOf text → s ≡ restOf text → r ≡ s
   pub to-write : (line buffer : List ℕ) (r s : ℕ) (left kept : List ℕ) →
       r ≡ writes line buffer → left ≡ leaves line buffer → s ≡ writes line buffer → kept ≡ leaves line buffer →

@@ -1,4 +1,5 @@
--- What must be believed of frames, in document 01's order: digits and pairs, the check, what the reader answers, what the writer leaves.
+-- What must be believed of frames, in document 01's order: digits and pairs, the check, what the reader answers, what
+-- the writer leaves; and the laws that hold of them.
 pub mod Pairs
 pub mod Reading
 pub mod Writing

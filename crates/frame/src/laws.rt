@@ -1,5 +1,5 @@
-// The laws of lines as contracts: an empty function promises each, so that a check names it. The statements are those of
-// `specs/Laws.antt`; nobody needs to call these.
+// The laws of lines as contracts: an empty function promises each, so that a check names it. The statements are those
+// of `specs/Laws.antt`; nobody needs to call these.
 ghost use Rattle.frame.specs.Laws.{DigitsAreInverse, CheckComesToZero, LengthsAreKnown};
 ghost use Rattle.frame.specs.Laws.{WrittenIsReadBack, AcceptedIsWritten, RefusalsGoByOrder, OnlyOneAnswerFits};
 

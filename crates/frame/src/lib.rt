@@ -1,7 +1,7 @@
 // The reader and the writer of lines: from a schedule's bytes to numbers, and from numbers to a log's bytes.
 //
-// The public functions ask nothing of their caller. What each answers, and what it leaves in a lent buffer, is one equation with
-// a definition of `specs/`. `pairs` is shared by lines of every length, read or written.
+// The public functions ask nothing of their caller. What each answers, and what it leaves in a lent buffer, is one
+// equation with a definition of `specs/`. `pairs` is shared by lines of every length, read or written.
 pub mod laws;
 mod pairs;
 mod reading;

@@ -1,5 +1,5 @@
-// Digits and pairs of digits, read and written, for lines of any number of pairs. What a caller must have tested before is in
-// the `requires`.
+// Digits and pairs of digits, read and written, for lines of any number of pairs. What a caller must have tested before
+// is in the `requires`.
 ghost use mathlib.Core.Path.{_≡_};
 ghost use mathlib.Core.Bool.{true};
 ghost use mathlib.Core.List.{_++_};
@@ -74,7 +74,8 @@ pub(crate) fn sum(text: &[u8], k: usize) -> u8
 // Writes v as pair number i of a buffer, the high digit first.
 pub(crate) fn put_pair(out: &mut [u8], i: usize, v: u8)
     requires { ⌜ 2 * i + 1 < length (now out) ⌝ }
-    ensures { λ _. ⌜ now (out .exit) ≡ set (set (now (out .entry)) (2 * i) (digitOf (v / 16))) (2 * i + 1) (digitOf (v % 16)) ⌝ }
+    ensures { λ _.
+        ⌜ now (out .exit) ≡ set (set (now (out .entry)) (2 * i) (digitOf (v / 16))) (2 * i + 1) (digitOf (v % 16)) ⌝ }
 {
     out[2 * i] = digit(v / 16);
     out[2 * i + 1] = digit(v % 16);
@@ -84,7 +85,8 @@ pub(crate) fn put_pair(out: &mut [u8], i: usize, v: u8)
 pub(crate) fn put_pairs(out: &mut [u8], values: &[u8]) -> u8
     requires { ⌜ 2 * length (now values) ≤ length (now out) ⌝ }
     ensures { λ r. ⌜ r ≡ sumOf (now (values .entry)) ⌝ }
-    ensures { λ _. ⌜ now (out .exit) ≡ digitsOf (now (values .entry)) ++ drop (2 * length (now (values .entry))) (now (out .entry)) ⌝ }
+    ensures { λ _.
+        ⌜ now (out .exit) ≡ digitsOf (now (values .entry)) ++ drop (2 * length (now (values .entry))) (now (out .entry)) ⌝ }
 {
     let mut total: u8 = 0;
     let mut i = 0;

@@ -41,8 +41,8 @@ fn kind_of(is_first: bool) -> u8
     if is_first { 1 } else { 2 }
 }
 
-// The refusal of a line of k pairs that is to begin with the pair `kind`; 0 for none. Each test is made only where the ones
-// before it have passed.
+// The refusal of a line of k pairs that is to begin with the pair `kind`; 0 for none. Each test is made only where the
+// ones before it have passed.
 pub(crate) fn refusal(text: &[u8], k: usize, kind: u8) -> u8
     requires { ⌜ (0 < k) × (k < 128) ⌝ }
     ensures { λ r. ⌜ r ≡ readAs k kind (now (text .entry)) .refusal ⌝ }

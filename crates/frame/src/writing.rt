@@ -6,8 +6,8 @@ ghost use Rattle.frame.specs.Writing.{lineOf, writes, leaves, headerLine
 
 const LINE_FEED: u8 = 10;
 
-// Writes the values, their check and a line feed into the first bytes of `out`, and answers 0; or answers 10 and writes nothing
-// where `out` is shorter than that line.
+// Writes the values, their check and a line feed into the first bytes of `out`, and answers 0; or answers 10 and writes
+// nothing where `out` is shorter than that line.
 pub fn write(out: &mut [u8], values: &[u8]) -> u8
     ensures { λ r. ⌜ r ≡ writes (lineOf (now (values .entry))) (now (out .entry)) ⌝ }
     ensures { λ _. ⌜ now (out .exit) ≡ leaves (lineOf (now (values .entry))) (now (out .entry)) ⌝ }

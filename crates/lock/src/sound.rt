@@ -8,29 +8,29 @@ ghost use Rattle.lock.specs.State.{processors};
 
 // Which places an edition has: a row for each place, a column for each edition (plain, drawn, guarded).
 const HAS: [[bool; 3]; 23] = [
-    [true, true, true],
-    [false, false, true],
-    [true, true, true],
-    [true, true, true],
-    [true, true, true],
-    [true, true, true],
-    [false, true, true],
-    [true, true, true],
-    [false, true, true],
-    [true, true, true],
-    [false, true, true],
-    [false, true, true],
-    [false, true, true],
-    [false, true, true],
-    [true, true, true],
-    [true, true, true],
-    [true, true, true],
-    [true, true, true],
-    [false, false, true],
-    [false, true, true],
-    [false, true, true],
-    [false, true, true],
-    [false, false, true],
+    [true, true, true], // 0 rest
+    [false, false, true], // 1 gate
+    [true, true, true], // 2 clear
+    [true, true, true], // 3 swap
+    [true, true, true], // 4 arm
+    [true, true, true], // 5 link
+    [false, true, true], // 6 claim
+    [true, true, true], // 7 spin
+    [false, true, true], // 8 settle
+    [true, true, true], // 9 inside
+    [false, true, true], // 10 poll
+    [false, true, true], // 11 service
+    [false, true, true], // 12 back
+    [false, true, true], // 13 regain
+    [true, true, true], // 14 look
+    [true, true, true], // 15 close
+    [true, true, true], // 16 await
+    [true, true, true], // 17 hand
+    [false, false, true], // 18 fence
+    [false, true, true], // 19 park
+    [false, true, true], // 20 peek
+    [false, true, true], // 21 take
+    [false, false, true], // 22 lift
 ];
 
 fn has_place(edition: u8, place: u8) -> bool

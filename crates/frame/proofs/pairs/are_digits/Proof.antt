@@ -22,21 +22,6 @@ loop-holds : tie.Need-loop-holds Inv-loop μ-loop
 unfolding every
 loop-holds c = (omega arith, refl)
 
-mul-loop : tie.Need-mul-loop Inv-loop μ-loop
-mul-loop c = omega arith
-
-shared-slice-read-is-digit : tie.Need-shared-slice-read-is-digit Inv-loop μ-loop
-shared-slice-read-is-digit c = omega arith
-
-is-digit-requires : tie.Need-is-digit-requires Inv-loop μ-loop
-is-digit-requires c κs = search needs
-
-add-i : tie.Need-add-i Inv-loop μ-loop
-add-i c = omega arith
-
-loop-less : tie.Need-loop-less Inv-loop μ-loop
-loop-less c = omega arith
-
 loop-again : tie.Need-loop-again Inv-loop μ-loop
 loop-again c = (omega arith, every-next _ _ _ _ (c .before .before .before .loop .inv .1) (c .is-digit .ensures))
 
@@ -44,7 +29,8 @@ returns : tie.Need-returns Inv-loop μ-loop
 unfolding areDigits
 returns c =
     let end = le-antisymm (c .before .loop .inv .0) (c .loop-test .left) in
-    c .before .loop .inv .1 ∙ ap (λ n. every n (λ b. isDigit (byteAt (now (c .before .before .before .args .text)) b))) end
+    let text = now (c .before .before .before .args .text) in
+    c .before .loop .inv .1 ∙ ap (λ n. every n (λ b. isDigit (byteAt text b))) end
 
 pub are-digits-spec : {M : Type 1} → statement M
 are-digits-spec =
@@ -53,10 +39,10 @@ are-digits-spec =
     Inv-loop
     μ-loop
     loop-holds
-    mul-loop
-    shared-slice-read-is-digit
-    is-digit-requires
-    add-i
-    loop-less
+    (λ c. omega arith)
+    (λ c. omega arith)
+    (λ c κs. search needs)
+    (λ c. omega arith)
+    (λ c. omega arith)
     loop-again
     returns)

@@ -1,5 +1,5 @@
--- `frame::pairs::put_pairs` meets its contract. The loop's invariant: the buffer begins with the digits of the values passed and
--- is as it was after them, and `total` is their sum.
+-- `frame::pairs::put_pairs` meets its contract. The loop's invariant: the buffer begins with the digits of the values
+-- passed and is as it was after them, and `total` is their sum.
 -- Assumes nothing.
 use Prim.Native.Nat.{_*_, _-_, _≤_}
 use native.Mathlib.Nat.{le-antisymm}
@@ -17,7 +17,11 @@ use Rattle.frame.proofs.pairs.put_pairs.Statement.{statement}
 use Rattle.frame.proofs.pairs.put_pairs.Tie as tie
 
 abbrev Inv-loop : tie.InvT-loop
-Inv-loop out₀ values total₀ i₀ out total i = (i ≤ length values) × (total ≡ sumOf (take i values)) × (out ≡ digitsOf (take i values) ++ drop (2 * i) out₀) × (length out ≡ length out₀)
+Inv-loop out₀ values total₀ i₀ out total i =
+    (i ≤ length values)
+    × (total ≡ sumOf (take i values))
+    × (out ≡ digitsOf (take i values) ++ drop (2 * i) out₀)
+    × (length out ≡ length out₀)
 
 abbrev μ-loop : tie.MeasureT-loop
 μ-loop out₀ values total₀ i₀ out total i = length values - i
@@ -26,29 +30,15 @@ loop-holds : tie.Need-loop-holds Inv-loop μ-loop
 unfolding sumOf digitsOf
 loop-holds c = (omega arith, refl, refl, refl)
 
-shared-slice-read-v : tie.Need-shared-slice-read-v Inv-loop μ-loop
-shared-slice-read-v c = omega arith
-
-put-pair-requires : tie.Need-put-pair-requires Inv-loop μ-loop
-put-pair-requires c κs = omega arith
-
-wrapping-add-u8-requires : tie.Need-wrapping-add-u8-requires Inv-loop μ-loop
-wrapping-add-u8-requires c κs = search needs
-
-add-i : tie.Need-add-i Inv-loop μ-loop
-add-i c = omega arith
-
-loop-less : tie.Need-loop-less Inv-loop μ-loop
-loop-less c = omega arith
-
 loop-again : tie.Need-loop-again Inv-loop μ-loop
 loop-again c =
     let turn = c .before .before .before .before .before .before in
-    let values = now (turn .before .before .before .before .args .values) in (
+    let start = turn .before .before .before .before in
+    let values = now (start .args .values) in (
       omega arith,
       total-goes-on values _ (turn .loop-test .taken) _ _ (turn .before .loop .inv .1) (c .wrapping-add-u8 .ensures),
       c .before .before .before .put-pair .ensures
-          ∙ put-goes-on values _ (turn .loop-test .taken) _ _ (turn .before .before .before .before .pre) (turn .before .loop .inv .2),
+          ∙ put-goes-on values _ (turn .loop-test .taken) _ _ (start .pre) (turn .before .loop .inv .2),
       c .before .before .before .put-pair .kept .0 ∙ turn .before .loop .inv .3,
     )
 
@@ -59,10 +49,13 @@ returns : tie.Need-returns Inv-loop μ-loop
 returns c =
     let start = c .before .before .before .before in
     let values = now (start .args .values) in
+    let out = now (start .args .out) in
     let all : take (c .before .loop .i) values ≡ values = take-all _ values (c .loop-test .left) in
     let end = le-antisymm (c .before .loop .inv .0) (c .loop-test .left) in (
       c .before .loop .inv .1 ∙ ap sumOf all,
-      c .before .loop .inv .2 ∙ ap (λ l. digitsOf l ++ drop (2 * c .before .loop .i) (now (start .args .out))) all ∙ ap (λ n. digitsOf values ++ drop (2 * n) (now (start .args .out))) end,
+      c .before .loop .inv .2
+          ∙ ap (λ l. digitsOf l ++ drop (2 * c .before .loop .i) out) all
+          ∙ ap (λ n. digitsOf values ++ drop (2 * n) out) end,
     )
 
 pub put-pairs-spec : {M : Type 1} → statement M
@@ -72,11 +65,11 @@ put-pairs-spec =
     Inv-loop
     μ-loop
     loop-holds
-    shared-slice-read-v
-    put-pair-requires
-    wrapping-add-u8-requires
-    add-i
-    loop-less
+    (λ c. omega arith)
+    (λ c κs. omega arith)
+    (λ c κs. search needs)
+    (λ c. omega arith)
+    (λ c. omega arith)
     loop-again
     same-length
     returns)

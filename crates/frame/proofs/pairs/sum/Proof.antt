@@ -28,17 +28,10 @@ pair-requires c κs =
     let digits = digit-within (start .args .k) text (start .pre .1) in
     (omega arith, (digits (2 * c .before .loop .i) (omega arith), digits (2 * c .before .loop .i + 1) (omega arith)))
 
-wrapping-add-u8-requires : tie.Need-wrapping-add-u8-requires Inv-loop μ-loop
-wrapping-add-u8-requires c κs = search needs
-
-add-i : tie.Need-add-i Inv-loop μ-loop
-add-i c = omega arith
-
-loop-less : tie.Need-loop-less Inv-loop μ-loop
-loop-less c = omega arith
-
 loop-again : tie.Need-loop-again Inv-loop μ-loop
-loop-again c = (omega arith, sum-goes-on _ _ _ _ _ (c .before .before .before .loop .inv .1) (c .before .pair .ensures) (c .wrapping-add-u8 .ensures))
+loop-again c =
+    let so = c .before .before .before .loop .inv .1 in
+    (omega arith, sum-goes-on _ _ _ _ _ so (c .before .pair .ensures) (c .wrapping-add-u8 .ensures))
 
 returns : tie.Need-returns Inv-loop μ-loop
 returns c =
@@ -53,8 +46,8 @@ sum-spec =
     μ-loop
     loop-holds
     pair-requires
-    wrapping-add-u8-requires
-    add-i
-    loop-less
+    (λ c κs. search needs)
+    (λ c. omega arith)
+    (λ c. omega arith)
     loop-again
     returns)

@@ -15,7 +15,8 @@ use Rattle.frame.proofs.reading.read.Statement.{statement}
 use Rattle.frame.proofs.reading.read.Tie as tie
 
 four : (text : List ℕ) (a b c d : ℕ) → a ≡ pairAt text 0 → b ≡ pairAt text 1 → c ≡ pairAt text 2 → d ≡ pairAt text 3 →
-    _≡_ {A = Told} (record { refusal = 0; numbers = a ∷ b ∷ c ∷ d ∷ [] }) (record { refusal = 0; numbers = pairsFrom 0 4 text })
+    _≡_ {A = Told} (record { refusal = 0; numbers = a ∷ b ∷ c ∷ d ∷ [] })
+    (record { refusal = 0; numbers = pairsFrom 0 4 text })
 unfolding pairsFrom
 four text a b c d ea eb ec ed = cc
 
@@ -53,8 +54,10 @@ returns-2 : tie.Need-returns-2
 returns-2 c =
     let first = c .before .before .before in
     let here = first .before in
-    four (text (here .before)) _ _ _ _ (first .pair .ensures) (c .before .before .pair2 .ensures) (c .before .pair3 .ensures) (c .pair4 .ensures)
-    ∙ sym (is-accepted 4 (wanted (here .before)) (text (here .before)) (accepted here .0) (accepted here .1) (accepted here .2) (accepted here .3))
+    let so = accepted here in
+    let second = c .before .before .pair2 .ensures in
+    four (text (here .before)) _ _ _ _ (first .pair .ensures) second (c .before .pair3 .ensures) (c .pair4 .ensures)
+    ∙ sym (is-accepted 4 (wanted (here .before)) (text (here .before)) (so .0) (so .1) (so .2) (so .3))
 
 pub read-spec : {M : Type 1} → statement M
 read-spec =

@@ -16,34 +16,9 @@ at-end text h = simp (drop-length text, take-nil) (sym (drop-of-length-le text (
 from-nine : (text : List ℕ) → take (length text - 9) (drop 9 text) ≡ drop 9 text
 from-nine text = take-all (length text - 9) (drop 9 text) (rw (length-drop 9 text) (le-refl (length text - 9)))
 
-sub-result : tie.Need-sub-result
-sub-result c = search needs
-
--- src/reading.rt:33:16
-part-result-start : tie.Need-part-result-start
-part-result-start c = search needs
-
--- src/reading.rt:33:16
-part-result-end : tie.Need-part-result-end
-part-result-end c = search needs
-
--- src/reading.rt:33:9
 returns : tie.Need-returns
 returns c = at-end (c .before .before .args .text .now) (c .before .if1 .taken)
 
--- src/reading.rt:35:5
-sub-result-2 : tie.Need-sub-result-2
-sub-result-2 c = search needs
-
--- src/reading.rt:35:5
-part-result-start-2 : tie.Need-part-result-start-2
-part-result-start-2 c = search needs
-
--- src/reading.rt:35:5
-part-result-end-2 : tie.Need-part-result-end-2
-part-result-end-2 c = search needs
-
--- src/reading.rt:28:1
 returns-2 : tie.Need-returns-2
 returns-2 c = from-nine (c .before .before .args .text .now)
 
@@ -51,11 +26,11 @@ pub rest-spec : {M : Type 1} → statement M
 rest-spec =
     tie.close
     (tie.spec
-    sub-result
-    part-result-start
-    part-result-end
+    (λ c. search needs)
+    (λ c. search needs)
+    (λ c. search needs)
     returns
-    sub-result-2
-    part-result-start-2
-    part-result-end-2
+    (λ c. search needs)
+    (λ c. search needs)
+    (λ c. search needs)
     returns-2)

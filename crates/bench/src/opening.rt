@@ -1,0 +1,97 @@
+// The whole schedule: the room for its log, the length that it may have, and line 1.
+use crate::Logged;
+use crate::lines;
+use crate::turns;
+use frame::Line;
+use lock::LockState;
+ghost use mathlib.Core.Path.{_≡_};
+ghost use mathlib.Core.Bool.{true};
+ghost use mathlib.Core.List.{[], _∷_, _++_};
+ghost use Prim.Native.Nat.{_+_, _*_, _/_, _≤_};
+ghost use lib.ListN.{length, take, drop};
+ghost use Rattle.lock.specs.Event.{fresh};
+ghost use Rattle.frame.specs.Reading.{reads};
+ghost use Rattle.frame.specs.Writing.{lineOf};
+ghost use Rattle.bench.specs.Log.{begun, opened};
+ghost use Rattle.bench.specs.Lent.{roomFor, logged, left};
+ghost use Rattle.bench.specs.Turned.{filled};
+
+// A schedule has at most 6,001 lines.
+const LONGEST: usize = 54009;
+
+// Line 1 as read, then the later lines; or the refusal of line 1 alone.
+pub(crate) fn begin(out: &mut [u8], schedule: &[u8], kind: u8, edition: u8, n: u8) -> usize
+    requires { ⌜ 17 * (length (now schedule) / 9) + 11 ≤ length (now out) ⌝ }
+    requires { ⌜ take 9 (now schedule) ≡ lineOf (kind ∷ edition ∷ n ∷ []) ⌝ }
+    ensures { λ r. ⌜ r ≡ length (begun (now (schedule .entry)) (fresh edition n)) ⌝ }
+    ensures { λ _. ⌜ now (out .exit) ≡ filled (begun (now (schedule .entry)) (fresh edition n)) (now (out .entry)) ⌝ }
+{
+    let fresh = LockState::fresh(edition, n);
+    let refusal = fresh.refusal;
+    let accepted = refusal == 0;
+    if accepted {
+        let state = fresh.state;
+        frame::write_frame(out, kind, edition, n);
+        let later = frame::rest(schedule);
+        let length = turns::follow(&mut out[lines::FRAME..], state, later);
+        return lines::FRAME + length;
+    }
+    lines::write_refused_at(out, refusal, 1);
+    lines::REFUSAL
+}
+
+// Line 1 as the reader reads it.
+pub(crate) fn open(out: &mut [u8], schedule: &[u8]) -> usize
+    requires { ⌜ 17 * (length (now schedule) / 9) + 11 ≤ length (now out) ⌝ }
+    ensures { λ r. ⌜ r ≡ length (opened (now (schedule .entry)) (reads (now (schedule .entry)) true)) ⌝ }
+    ensures { λ _. ⌜ now (out .exit) ≡ filled (opened (now (schedule .entry)) (reads (now (schedule .entry)) true)) (now (out .entry)) ⌝ }
+{
+    match frame::read(schedule, true) {
+        Line::Frame(kind, edition, n, _) => begin(out, schedule, kind, edition, n),
+        Line::Refused(refusal) => {
+            lines::write_refused_at(out, refusal, 1);
+            lines::REFUSAL
+        }
+    }
+}
+
+// The room that a buffer must have for the log of so many bytes.
+pub(crate) fn room_for(bytes: usize) -> usize
+    ensures { λ r. ⌜ r ≡ roomFor bytes ⌝ }
+{
+    let long = LONGEST < bytes;
+    if long {
+        return lines::REFUSAL;
+    }
+    lines::ROW * (bytes / lines::FRAME) + lines::REFUSAL
+}
+
+// The log of a schedule, in the first bytes of `out`; or refusal 10, and nothing written, where `out` has not the room.
+pub fn bench(schedule: &[u8], out: &mut [u8]) -> Logged
+    ensures { λ r. ⌜ r ≡ logged (now (schedule .entry)) (now (out .entry)) ⌝ }
+    ensures { λ _. ⌜ now (out .exit) ≡ left (now (schedule .entry)) (now (out .entry)) ⌝ }
+    ensures { λ r. ⌜ r .length ≤ length (now (out .exit)) ⌝ }
+{
+    let size = schedule.len();
+    let room = room_for(size);
+    let short = out.len() < room;
+    if short {
+        return Logged {
+            refusal: 10,
+            length: 0,
+        };
+    }
+    let long = LONGEST < size;
+    if long {
+        lines::write_refused_at(out, 1, 0);
+        return Logged {
+            refusal: 0,
+            length: lines::REFUSAL,
+        };
+    }
+    let length = open(out, schedule);
+    Logged {
+        refusal: 0,
+        length,
+    }
+}
