@@ -3,3 +3,14 @@ pub mod Tickets
 pub mod Writes
 pub mod Calls
 pub mod Stages
+pub mod Roles
+pub mod Statement
+pub mod Carry
+pub mod Quiet
+pub mod Join
+pub mod Near
+pub mod Link
+pub mod Leave
+pub mod Hand
+pub mod Take
+pub mod Invariant

@@ -2,21 +2,21 @@
 -- what their acceptance tells. Also the parts of soundness that the arguments about runs use.
 --     by-call          a statement of state and tickets holds after every call, if it holds in these three cases
 --     sound-bounds     the number of processors is within the rows
---     sound-places     each processor's place is one that its edition has
+--     sound-plain      in the plain edition each row's place is one that this edition has
 use Prim.Native.Nat.{ℕ, zero, suc, _<_, _≤_}
-use mathlib.Core.Path.{_≡_, refl, sym, _∙_}
+use mathlib.Core.Path.{_≡_, refl, subst}
 use mathlib.Core.Bool.{Bool, true, false, not, _&&_, _||_}
 use mathlib.Core.Logic.{⊎-elim}
 use native.Mathlib.Omega.{arith}
 use native.Mathlib.Nat.{eq-or-lt-of-le, le-of-suc-le-suc}
 use lib.Dec.{eqb, ltb, leb}
-use borrow.Author.Tests.{leb-true, leb-false, eq-eqb, lt-ltb}
+use borrow.Author.Tests.{leb-true, leb-false, eqb-true, eq-eqb}
 use Rattle.lock.specs.declared.Row.{Row}
 use Rattle.lock.specs.declared.LockState.{LockState}
 use Rattle.lock.specs.declared.Answer.{Answer}
 use Rattle.lock.specs.Choice.{pick, every}
-use Rattle.lock.specs.State.{processors, row}
-use Rattle.lock.specs.Sound.{noneOrBelow, hasPlace, cellsSound, placeSound, wantsPred, wantsSucc, wantsNx, isThere, soundRow, sound}
+use Rattle.lock.specs.State.{processors, isNone, row}
+use Rattle.lock.specs.Sound.{noneOrBelow, hasPlace, cellsSound, placeSound, wantsPred, wantsSucc, wantsNx, isThere, asFresh, soundRow, sound}
 use Rattle.lock.specs.Table.{stepped}
 use Rattle.lock.specs.Event.{accepted, refused, isStep, isRaise, raised, happens}
 use Rattle.lock.specs.Run.{Call, after, stepsOf, joins}
@@ -96,10 +96,23 @@ sound-place e r h =
     let c = isThere (wantsSucc (r .place)) (r .succ) in
     and-left a b (and-left (a && b) c (and-left (a && b && c) (isThere (wantsNx (r .place)) (r .nx)) h))
 
-pub sound-places : (s : LockState) (q : ℕ) → sound s ≡ true → q < s .n → hasPlace (s .edition) ((row s q) .place) ≡ true
-unfolding soundRow
-sound-places s q e h =
-    let bound : s .n ≤ 16 = sound-bounds s e in
-    let one : soundRow s q ≡ true = every-at processors (soundRow s) q (sound-parts s e .1) (omega arith) in
-    let both : cellsSound (s .n) (row s q) && placeSound (s .edition) (row s q) ≡ true = rw (lt-ltb q (s .n) h, soundRow) at one in
-    sound-place (s .edition) (row s q) (and-right (cellsSound (s .n) (row s q)) (placeSound (s .edition) (row s q)) both)
+fresh-place : (r : Row) → asFresh r ≡ true → r .place ≡ 0
+unfolding asFresh
+fresh-place r h =
+    let a = isNone (r .next) && eqb (r .locked) 0 && not (r .guard) && not (r .flag) in
+    let b = eqb (r .place) 0 in
+    let c = isNone (r .pred) in
+    let d = isNone (r .succ) in
+    eqb-true (r .place) 0 (and-right a b (and-left (a && b) c (and-left (a && b && c) d (and-left (a && b && c && d) (isNone (r .nx)) h))))
+
+-- each row's place is one that the plain edition has, also from N on
+pub sound-plain : (s : LockState) (q : ℕ) → sound s ≡ true → s .edition ≡ 0 → q < processors → hasPlace 0 ((row s q) .place) ≡ true
+unfolding soundRow hasPlace
+sound-plain s q fit e h = by-bound (ltb q (s .n)) refl (every-at processors (soundRow s) q (sound-parts s fit .1) h)
+  where
+    by-bound : (b : Bool) → ltb q (s .n) ≡ b → soundRow s q ≡ true → hasPlace 0 ((row s q) .place) ≡ true
+    by-bound true b one =
+        let both : cellsSound (s .n) (row s q) && placeSound (s .edition) (row s q) ≡ true = rw (b, soundRow) at one in
+        subst (λ (z : ℕ). hasPlace z ((row s q) .place) ≡ true) e
+        (sound-place (s .edition) (row s q) (and-right (cellsSound (s .n) (row s q)) (placeSound (s .edition) (row s q)) both))
+    by-bound false b one = let fresh : asFresh (row s q) ≡ true = rw (b, soundRow) at one in rw (fresh-place (row s q) fresh) refl

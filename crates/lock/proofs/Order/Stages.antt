@@ -1,13 +1,14 @@
 -- The places grouped by what the arguments about runs say of them: places that no argument tells apart are one stage. And what
 -- holds of every stage by looking at each once.
 --     Stage, stageOf, stageAt      the groups, the group of a place, and of a place's number
+--     stage-far                    a number that is no place
 --     stage-by                     a test of a stage that computes to true at each of them holds of any
 --     implies                      a test that follows from another
-use Prim.Native.Nat.{ℕ}
-use mathlib.Core.Path.{_≡_, refl}
+use Prim.Native.Nat.{ℕ, _≤_}
+use mathlib.Core.Path.{_≡_, refl, ap}
 use mathlib.Core.Bool.{Bool, true, false, not, _||_}
 use mathlib.Core.List.{List, [], _∷_}
-use lib.ListN.{getD}
+use lib.ListN.{getD, List·getD-eq-default}
 use lib.Dec.{lit<}
 use Rattle.lock.specs.Choice.{every}
 use Rattle.lock.specs.Table.{Place, placeAt, rest, gate, clear, swap, arm, link, claim, spin, settle, inside, poll, service, back, regain, look, close, await, hand, fence, park, peek, take, lift, nowhere}
@@ -44,6 +45,15 @@ stageOf nowhere = resting
 
 abbrev pub stageAt : ℕ → Stage
 stageAt k = stageOf (placeAt k)
+
+-- a number that is no place is taken for a resting one
+pub stage-far : (k : ℕ) → 23 ≤ k → stageAt k ≡ resting
+stage-far k h =
+    ap stageOf
+    (List·getD-eq-default
+    (rest ∷ gate ∷ clear ∷ swap ∷ arm ∷ link ∷ claim ∷ spin ∷ settle ∷ inside ∷ poll ∷ service ∷ back ∷ regain ∷ look ∷ close
+    ∷ await ∷ hand ∷ fence ∷ park ∷ peek ∷ take ∷ lift ∷ [])
+    nowhere h)
 
 abbrev stages : ℕ → Stage
 stages i =

@@ -1,0 +1,174 @@
+-- What becomes of the rows that a step does not write, when the ghosts change. The ghosts fall in two halves: the queue's (gone,
+-- served, who, linked, releaser) and the fences' (fencer, lagged, peeked). A step changes few of them, and each row's clauses
+-- ask only for what changed of its own.
+--     moved, refenced      a ghost with its first, or its second half replaced
+--     queued-map           to stay in the queue
+--     pass-fit             a row under a changed first half
+--     refence-fit          a row under a changed second half
+--     fenced-same          a row of which the fences say the same
+--     owner                who made a join that is still in the queue is in the queue
+--     clash                no test comes out both ways
+use Prim.Native.Nat.{ℕ, suc, _<_, _≤_}
+use mathlib.Core.Path.{_≡_, refl, sym, ap, _∙_}
+use mathlib.Core.Bool.{Bool, true, false}
+use mathlib.Core.Logic.{_≢_}
+use native.Mathlib.Omega.{arith}
+use Rattle.lock.specs.Choice.{pick}
+use Rattle.lock.specs.State.{none, isNone}
+use Rattle.lock.proofs.Order.Tickets.{Tickets}
+use Rattle.lock.proofs.Order.Stages.{Stage}
+use Rattle.lock.proofs.Order.Roles.{Role, out, raw, wait, tok, rel, lag, role, isQueued, joining, fences, isTaking, isLifting}
+use Rattle.lock.proofs.Order.Statement.{Ghost, Books, Linked, Queued, Away, Raw, Wait, Tok, Rel, Lag, Duty, given, given-map, Fenced, Fit}
+
+pub clash : {A : Type 0} {b : Bool} → b ≡ true → b ≡ false → A
+clash {A} {b} e f = absurd (let z : _≡_ {A = ℕ} 0 1 = cc in omega arith)
+
+abbrev pub moved : Ghost → (a u : ℕ) → (ℕ → ℕ) → (ℕ → Bool) → ℕ → Ghost
+moved G a u J W r =
+    record { gone = a; served = u; who = J; linked = W; releaser = r; fencer = G .fencer; lagged = G .lagged; peeked = G .peeked }
+
+abbrev pub refenced : Ghost → (ℕ → ℕ) → (ℕ → Bool) → (ℕ → ℕ) → Ghost
+refenced G F K Z =
+    record {
+      gone = G .gone;
+      served = G .served;
+      who = G .who;
+      linked = G .linked;
+      releaser = G .releaser;
+      fencer = F;
+      lagged = K;
+      peeked = Z;
+    }
+
+pub queued-map :
+    {g h : Tickets} {G H : Ghost} {q next : ℕ} → Queued g G q next → h .latest q ≡ g .latest q → H .gone ≤ g .latest q → g .count ≤ h .count
+    → ((i : ℕ) → i < g .count → H .who i ≡ G .who i)
+    → ((i : ℕ) → i < g .count → G .linked i ≡ true → H .linked i ≡ true)
+    → Queued h H q next
+queued-map {g} {h} {G} {H} {q} {next} u same low grows who done =
+    record {
+      low = rw same low;
+      high = let a = u .high in rw same (omega arith);
+      mine = ap (H .who) same ∙ who (g .latest q) (u .high) ∙ u .mine;
+      chain =
+          λ d.
+          let c = u .chain d in
+          let at : suc (h .latest q) ≡ suc (g .latest q) = ap suc same in
+          record {
+            below = let b = c .below in omega arith;
+            made = c .made ∙ sym (ap (H .who) at ∙ who (suc (g .latest q)) (c .below));
+            done = ap (H .linked) at ∙ done (suc (g .latest q)) (c .below) (c .done);
+          };
+    }
+
+-- who made a join stays
+abbrev pub passed : Ghost → (a u : ℕ) → (ℕ → Bool) → ℕ → Ghost
+passed G a u W r = moved G a u (G .who) W r
+
+-- what a change of the first half asks of each role, for q to keep its clauses
+pub record Asks (g : Tickets) (G : Ghost) (a u : ℕ) (W : ℕ → Bool) (r q next heir : ℕ) : Type 0 where
+  pub raws : Raw g G q next → (W (g .latest q) ≡ false) × (a < g .latest q) × (u ≤ g .latest q)
+  pub waits : Wait g G q next → (a ≤ g .latest q) × (u ≤ g .latest q)
+  pub toks : Tok g G q next → (a ≤ g .latest q) × (g .latest q < u)
+  pub rels : Rel g G q heir → (u ≡ a) × (q ≡ r) × Linked g (passed G a u W r) a heir
+
+module _ (g : Tickets) (G : Ghost) (a u : ℕ) (W : ℕ → Bool) (r : ℕ) (more : G .gone ≤ a) (linked : (i : ℕ) → G .linked i ≡ true → W i ≡ true) where
+  stay : {q next : ℕ} → Queued g G q next → a ≤ g .latest q → Queued g (passed G a u W r) q next
+  stay v low = queued-map v refl low (omega arith) (λ i b. refl) (λ i b. linked i)
+
+  pub pass :
+      (ρ : Role) (q next succ heir : ℕ) → Asks g G a u W r q next heir → Duty ρ g G q next succ heir
+      → Duty ρ g (passed G a u W r) q next succ heir
+  pass out q next succ heir k d = λ x y z. d (omega arith) y z
+  pass raw q next succ heir k d =
+      let w = k .raws d in
+      let low : a < g .latest q = w .1 in
+      record { queued = stay (d .queued) (omega arith); unlinked = w .0; later = low; behind = w .2 }
+  pass wait q next succ heir k d =
+      let w = k .waits d in
+      record { queued = stay (d .queued) (w .0); done = linked (g .latest q) (d .done); behind = w .1 }
+  pass tok q next succ heir k d = let w = k .toks d in record { queued = stay (d .queued) (w .0); first = w .1 }
+  pass rel q next succ heir k d =
+      let w = k .rels d in
+      record { away = λ x y z. d .away (omega arith) y z; handing = w .0; only = w .1; front = w .2 }
+  pass lag q next succ heir k d = record { away = λ x y z. d .away (omega arith) y z; fenced = d .fenced; parked = d .parked }
+
+  pub pass-fit :
+      {e q : ℕ} {st : Stage} {l next pred succ nx : ℕ} {guard : Bool} → Asks g G a u W r q next (pick (isLifting st) nx succ)
+      → Fit e g G q st l next pred succ nx guard → Fit e g (passed G a u W r) q st l next pred succ nx guard
+  pass-fit {q = q} {st = st} {l = l} {next = next} {succ = succ} {nx = nx} k f =
+      record {
+        small = f .small;
+        settles = f .settles;
+        duty = pass (role st l (isNone nx)) q next succ (pick (isLifting st) nx succ) k (f .duty);
+        joins = given-map (joining st) (λ b j i x y. j i x (omega arith)) (f .joins);
+        blank = f .blank;
+        fencing = f .fencing;
+        peeking = f .peeking;
+        shut = f .shut;
+        fenced = f .fenced;
+        plain = f .plain;
+      }
+
+requeue :
+    {g : Tickets} {G : Ghost} {F : ℕ → ℕ} {K : ℕ → Bool} {Z : ℕ → ℕ} {q next : ℕ} → Queued g G q next → Queued g (refenced G F K Z) q next
+requeue v = queued-map v refl (v .low) (omega arith) (λ i b. refl) (λ i b h. h)
+
+-- a row of which the fences say the same
+pub fenced-same :
+    (G : Ghost) (F : ℕ → ℕ) (K : ℕ → Bool) (Z : ℕ → ℕ) (q l next : ℕ) (guard : Bool) → F q ≡ G .fencer q → K q ≡ G .lagged q
+    → Z q ≡ G .peeked q → (G .fencer q ≢ 0 → Fenced (G .lagged q) (G .peeked q) l next guard) → F q ≢ 0
+    → Fenced (K q) (Z q) l next guard
+fenced-same G F K Z q l next guard f k z w d =
+    let u = w (λ o. d (f ∙ o)) in
+    record { set = u .set; still = λ b. u .still (sym k ∙ b); kept = λ n. u .kept (λ o. n (z ∙ o)) ∙ sym z }
+
+module _ (g : Tickets) (G : Ghost) (F : ℕ → ℕ) (K : ℕ → Bool) (Z : ℕ → ℕ) where
+  -- a role's duty under other fences: only who lags looks at them
+  pub refence :
+      (ρ : Role) (q next succ heir : ℕ) → (Lag g G q succ → (F succ ≡ suc q) × (K succ ≡ true)) → Duty ρ g G q next succ heir
+      → Duty ρ g (refenced G F K Z) q next succ heir
+  refence out q next succ heir la d = d
+  refence raw q next succ heir la d =
+      record { queued = requeue (d .queued); unlinked = d .unlinked; later = d .later; behind = d .behind }
+  refence wait q next succ heir la d = record { queued = requeue (d .queued); done = d .done; behind = d .behind }
+  refence tok q next succ heir la d = record { queued = requeue (d .queued); first = d .first }
+  refence rel q next succ heir la d =
+      record {
+        away = d .away;
+        handing = d .handing;
+        only = d .only;
+        front = record { below = d .front .below; made = d .front .made; done = d .front .done };
+      }
+  refence lag q next succ heir la d = let w = la d in record { away = d .away; fenced = w .0; parked = w .1 }
+
+  pub refence-fit :
+      {e q : ℕ} {st : Stage} {l next pred succ nx : ℕ} {guard : Bool} → (Lag g G q succ → (F succ ≡ suc q) × (K succ ≡ true))
+      → (fences st ≡ true → (G .fencer succ ≡ suc q) × (succ ≢ q) → (F succ ≡ suc q) × (succ ≢ q))
+      → (isTaking st ≡ true → (G .peeked succ ≡ nx) × (nx ≢ none) → (Z succ ≡ nx) × (nx ≢ none))
+      → (F q ≢ 0 → Fenced (K q) (Z q) l next guard)
+      → Fit e g G q st l next pred succ nx guard → Fit e g (refenced G F K Z) q st l next pred succ nx guard
+  refence-fit {q = q} {st = st} {l = l} {next = next} {succ = succ} {nx = nx} la fe pe fd f =
+      record {
+        small = f .small;
+        settles = f .settles;
+        duty = refence (role st l (isNone nx)) q next succ (pick (isLifting st) nx succ) la (f .duty);
+        joins = f .joins;
+        blank = f .blank;
+        fencing = given-map (fences st) fe (f .fencing);
+        peeking = given-map (isTaking st) pe (f .peeking);
+        shut = f .shut;
+        fenced = fd;
+        plain = f .plain;
+      }
+
+-- who made a join that is still in the queue is in the queue
+pub owner :
+    {g : Tickets} {G : Ghost} (ρ : Role) (q next succ heir : ℕ) → G .gone ≤ g .latest q → g .latest q < g .count
+    → G .who (g .latest q) ≡ q → Duty ρ g G q next succ heir → Queued g G q next × (isQueued ρ ≡ true)
+owner out q next succ heir a b c d = absurd (d a b c)
+owner raw q next succ heir a b c d = (d .queued, refl)
+owner wait q next succ heir a b c d = (d .queued, refl)
+owner tok q next succ heir a b c d = (d .queued, refl)
+owner rel q next succ heir a b c d = absurd (d .away a b c)
+owner lag q next succ heir a b c d = absurd (d .away a b c)

@@ -1,0 +1,108 @@
+-- Places 14 to 16: who has the lock goes from the front of the queue, either with a next to hand the lock on to, or closing the
+-- queue behind it.
+use Prim.Native.Nat.{ℕ, suc, _<_, _≤_}
+use mathlib.Core.Path.{_≡_, refl, sym, ap, _∙_}
+use mathlib.Core.Bool.{Bool, true, false}
+use mathlib.Core.Logic.{_≢_}
+use native.Mathlib.Omega.{arith}
+use lib.Dec.{eqb}
+use lib.ListN.{length}
+use borrow.Author.Tests.{eqb-true, eqb-false}
+use Rattle.lock.specs.declared.Row.{Row}
+use Rattle.lock.specs.declared.LockState.{LockState}
+use Rattle.lock.specs.State.{none, isNone, withPlace, withSucc, row, putRow, putTail, to, putSucc}
+use Rattle.lock.specs.Acts as Acts
+use Rattle.lock.proofs.Order.Tickets.{Tickets}
+use Rattle.lock.proofs.Order.Writes.{Own, own-start, own-put, own-tail}
+use Rattle.lock.proofs.Order.Stages.{Stage, holding, stageAt}
+use Rattle.lock.proofs.Order.Statement.{Ghost, Books, Linked, Queued, Raw, Wait, Tok, Rel, Fit, Holds}
+use Rattle.lock.proofs.Order.Carry.{clash, passed, pass-fit}
+use Rattle.lock.proofs.Order.Near.{before, served-first, pop-asks, there-some}
+use Rattle.lock.proofs.Order.Quiet.{own-holds, by-test, free-fit, mine, go}
+
+module _ (s : LockState) (g : Tickets) (p : ℕ) (v : Holds s g) (room : p < length (s .rows)) where
+  abbrev R : Row
+  R = row s p
+
+  abbrev G : Ghost
+  G = v .ghost
+
+  to-hand : stageAt (R .place) ≡ holding → isNone (R .next) ≡ false → Holds (Acts.toHand s p) g
+  unfolding Acts.toHand to putSucc putRow
+  to-hand e h =
+      let f = mine s g p v room e in
+      let d = f .duty in
+      let c = d .queued .chain (eqb-false (R .next) none h) in
+      let first = served-first s g v d in
+      let front = first .0 in
+      let serve = first .1 in
+      let below = c .below in
+      let next-is : suc (g .latest p) ≡ suc (G .gone) = ap suc front in
+      let done : G .linked (suc (G .gone)) ≡ true = sym (ap (G .linked) next-is) ∙ c .done in
+      own-holds v (passed G (suc (G .gone)) (G .served) (G .linked) p)
+      (own-put (λ r. withPlace r 17) (own-put (λ r. withSucc r (R .next)) (own-start s p room))) refl
+      (record {
+        low = omega arith;
+        least = omega arith;
+        most = omega arith;
+        known = λ i a b. v .books .known i (omega arith) b;
+        past = v .books .past;
+        empty = λ z. absurd (let k = v .books .empty z in omega arith);
+        last = λ z. (omega arith, v .books .last z .1);
+      })
+      (free-fit refl (f .small) (f .settles)
+      (record {
+        away = λ a b k. omega arith;
+        handing = serve;
+        only = refl;
+        front = record { below = omega arith; made = c .made ∙ ap (G .who) next-is; done = done };
+      })
+      (f .fenced) (f .plain))
+      (λ q a.
+      pass-fit g G (suc (G .gone)) (G .served) (G .linked) p (omega arith) (λ i z. z)
+      (pop-asks s g v p (R .next) p d (λ q next k z. clash (ap (G .linked) z ∙ done) (k .unlinked)) q _ _ a)
+      (v .fits q))
+
+  pub look-holds : stageAt (R .place) ≡ holding → Holds (Acts.look s p) g
+  unfolding Acts.look
+  look-holds e = by-test (λ t. Holds t g) (isNone (R .next)) (λ h. go s g p v room 15 (mine s g p v room e)) (λ h. to-hand e h)
+
+  pub await-holds : stageAt (R .place) ≡ holding → Holds (Acts.await s p) g
+  unfolding Acts.await
+  await-holds e = by-test (λ t. Holds t g) (isNone (R .next)) (λ h. v) (λ h. to-hand e h)
+
+  pub close-holds : stageAt (R .place) ≡ holding → Holds (Acts.close s p) g
+  unfolding Acts.close to putTail putRow
+  close-holds e =
+      by-test (λ t. Holds t g) (eqb (s .tail) p) (λ h. closed (eqb-true (s .tail) p h)) (λ h. go s g p v room 16 (mine s g p v room e))
+    where
+      closed : s .tail ≡ p → Holds (to (putTail s none) p 0) g
+      closed h =
+          let f = mine s g p v room e in
+          let d = f .duty in
+          let first = served-first s g v d in
+          let front = first .0 in
+          let serve = first .1 in
+          let high = d .queued .high in
+          let prior = before (G .gone) (g .count) (omega arith) in
+          let below = prior .1 in
+          let least = prior .2 in
+          let i = prior .0 in
+          let last : s .tail ≡ G .who i = v .books .last (λ z. there-some s g v p room (sym h ∙ z)) .1 i below in
+          let known : g .latest p ≡ i = ap (g .latest) (sym h ∙ last) ∙ v .books .known i least (omega arith) in
+          own-holds v (passed G (suc (G .gone)) (G .served) (G .linked) (G .releaser))
+          (own-put (λ r. withPlace r 0) (own-tail none (own-start s p room))) refl
+          (record {
+            low = omega arith;
+            least = omega arith;
+            most = omega arith;
+            known = λ i a b. v .books .known i (omega arith) b;
+            past = v .books .past;
+            empty = λ z. omega arith;
+            last = λ z. absurd (z refl);
+          })
+          (free-fit refl (f .small) (f .settles) (λ a b k. omega arith) (f .fenced) (f .plain))
+          (λ q a.
+          pass-fit g G (suc (G .gone)) (G .served) (G .linked) (G .releaser) (omega arith) (λ i z. z)
+          (pop-asks s g v p (R .next) (G .releaser) d (λ q next k z. let b = k .queued .high in omega arith) q _ _ a)
+          (v .fits q))

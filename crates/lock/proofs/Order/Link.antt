@@ -1,0 +1,283 @@
+-- Places 5 and 6. The link makes p known to the row before it: p is raw no longer. The claim finds the lock parked on the row
+-- before it: that one goes from the front, and p is served in its place.
+use Prim.Native.Nat.{ℕ, suc, _<_, _≤_}
+use mathlib.Core.Path.{_≡_, refl, sym, ap, subst, _∙_}
+use mathlib.Core.Bool.{Bool, true, false}
+use mathlib.Core.Logic.{_≢_}
+use native.Mathlib.Omega.{arith}
+use lib.Dec.{eqb, leb}
+use lib.ListN.{length}
+use borrow.Author.Tests.{eqb-true, eqb-false, not-true}
+use Rattle.lock.specs.declared.Row.{Row}
+use Rattle.lock.specs.declared.LockState.{LockState}
+use Rattle.lock.specs.Choice.{pick}
+use Rattle.lock.specs.State.{none, isNone, isPlain, Released, RP, withNext, withLocked, withPlace, row, putRow, putNext, putLocked, to}
+use Rattle.lock.specs.Acts as Acts
+use Rattle.lock.proofs.Order.Tickets.{Tickets}
+use Rattle.lock.proofs.Order.Writes.{by-same, Both, both-start, both-own, both-near}
+use Rattle.lock.proofs.Order.Stages.{Stage, linking, claiming, stageAt}
+use Rattle.lock.proofs.Order.Roles.{Role, out, raw, wait, tok, rel, lag, role, settled, joining, isSwapping, isQueued, isLifting, parked-out, parked-settled, queued-joined}
+use Rattle.lock.proofs.Order.Statement.{Ghost, upd, upd-same, upd-other, Books, Linked, Queued, Away, Raw, Wait, Tok, Rel, Lag, Duty, given-map, Fenced, Fit, FitRow, Holds}
+use Rattle.lock.proofs.Order.Carry.{clash, passed, queued-map, Asks, pass, pass-fit}
+use Rattle.lock.proofs.Order.Near.{same-join, before, roleRow, served-first, maker, queued-there, parked-tok-at}
+use Rattle.lock.proofs.Order.Quiet.{both-holds, by-test, free-fit, relock, mine, go}
+
+-- another next, with what is to be said of it
+chain-duty :
+    {g : Tickets} {G : Ghost} (ρ : Role) (q next new succ heir : ℕ) → Queued g G q new → Duty ρ g G q next succ heir
+    → Duty ρ g G q new succ heir
+chain-duty out q next new succ heir u d = d
+chain-duty raw q next new succ heir u d = record { queued = u; unlinked = d .unlinked; later = d .later; behind = d .behind }
+chain-duty wait q next new succ heir u d = record { queued = u; done = d .done; behind = d .behind }
+chain-duty tok q next new succ heir u d = record { queued = u; first = d .first }
+chain-duty rel q next new succ heir u d = d
+chain-duty lag q next new succ heir u d = d
+
+module _ (s : LockState) (g : Tickets) (p : ℕ) (v : Holds s g) (room : p < length (s .rows)) where
+  abbrev R : Row
+  R = row s p
+
+  abbrev G : Ghost
+  G = v .ghost
+
+  -- the ghost with p's join linked
+  abbrev H : Ghost
+  H = passed G (G .gone) (G .served) (upd (G .linked) (g .latest p) true) (G .releaser)
+
+  linked-more : (i : ℕ) → G .linked i ≡ true → H .linked i ≡ true
+  linked-more i e =
+      by-same (λ i. G .linked i ≡ true → H .linked i ≡ true) (g .latest p) (λ e. upd-same (G .linked) (g .latest p) true)
+      (λ i d e. upd-other (G .linked) (g .latest p) true i d ∙ e) i e
+
+  link-asks : Raw g G p (R .next) → (q next heir : ℕ) → q ≢ p → Asks g G (G .gone) (G .served) (H .linked) (G .releaser) q next heir
+  link-asks d q next heir ne =
+      record {
+        raws =
+            λ w. (
+              upd-other (G .linked) (g .latest p) true (g .latest q) (λ e. ne (same-join (w .queued) (d .queued) e)) ∙ w .unlinked,
+              w .later,
+              w .behind,
+            );
+        waits = λ w. (w .queued .low, w .behind);
+        toks = λ w. (w .queued .low, w .first);
+        rels =
+            λ w. (
+              w .handing,
+              w .only,
+              record { below = w .front .below; made = w .front .made; done = linked-more (G .gone) (w .front .done) },
+            );
+      }
+
+  pub link-holds : stageAt (R .place) ≡ linking → Holds (Acts.link s p) g
+  unfolding Acts.link to putNext putRow
+  link-holds e = by-edition (isPlain (s .edition))
+    where
+      f : Fit (s .edition) g G p linking (R .locked) (R .next) (R .pred) (R .succ) (R .nx) (R .guard)
+      f = mine s g p v room e
+
+      d : Raw g G p (R .next)
+      d = f .duty
+
+      prior : (i : ℕ) × (suc i ≡ g .latest p) × (G .gone ≤ i)
+      prior = before (G .gone) (g .latest p) (d .later)
+
+      y : ℕ
+      y = R .pred
+
+      at : (g .latest y ≡ prior .0) × Queued g G y ((row s y) .next) × (isQueued (roleRow (row s y)) ≡ true)
+      at =
+          maker s g v y (prior .0) (f .joins (prior .0) (prior .1) (prior .2)) (prior .2)
+          (let a = prior .1 in let b = d .queued .high in omega arith)
+
+      next-join : suc (g .latest y) ≡ g .latest p
+      next-join = ap suc (at .0) ∙ prior .1
+
+      apart : p ≢ y
+      apart z = let a : g .latest p ≡ g .latest y = ap (g .latest) z in let b = next-join in omega arith
+
+      locked : R .locked ≡ 1
+      locked = eqb-true (R .locked) 1 (f .settles)
+
+      waiting : Wait g H p (R .next)
+      waiting =
+          record {
+            queued = queued-map (d .queued) refl (d .queued .low) (omega arith) (λ i b. refl) (λ i b. linked-more i);
+            done = upd-same (G .linked) (g .latest p) true;
+            behind = d .behind;
+          }
+
+      -- y's next is now p, which stands right behind it
+      chained : Queued g H y p
+      chained =
+          record {
+            low = at .1 .low;
+            high = at .1 .high;
+            mine = at .1 .mine;
+            chain =
+                λ z.
+                record {
+                  below = rw next-join (d .queued .high);
+                  made = sym (ap (G .who) next-join ∙ d .queued .mine);
+                  done = ap (H .linked) next-join ∙ upd-same (G .linked) (g .latest p) true;
+                };
+          }
+
+      near : FitRow (s .edition) g H y (withNext (row s y) p)
+      near =
+          let r = row s y in
+          let st = stageAt (r .place) in
+          let h = v .fits y in
+          let heir = pick (isLifting st) (r .nx) (r .succ) in
+          record {
+            small = h .small;
+            settles = h .settles;
+            duty =
+                chain-duty (roleRow r) y (r .next) p (r .succ) heir chained
+                (pass g G (G .gone) (G .served) (H .linked) (G .releaser) (omega arith) linked-more (roleRow r) y (r .next) (r .succ) heir
+                (link-asks d y (r .next) heir (λ z. apart (sym z))) (h .duty));
+            joins = h .joins;
+            blank = rw (not-true (isSwapping st) (queued-joined st (r .locked) (isNone (r .nx)) (h .small) (at .2))) tt;
+            fencing = h .fencing;
+            peeking = h .peeking;
+            shut = h .shut;
+            fenced =
+                λ z.
+                let w = h .fenced z in
+                record {
+                  set = w .set;
+                  still = w .still;
+                  kept =
+                      λ k.
+                      clash (sym (ap (G .linked) next-join) ∙ (at .1 .chain (λ n. k (sym (w .kept k) ∙ n))) .done) (d .unlinked);
+                };
+            plain = h .plain;
+          }
+
+      own : (k : ℕ) → Fit (s .edition) g H p (stageAt k) 1 (R .next) (R .pred) (R .succ) (R .nx) (R .guard) → Holds (to (putNext s y p) p k) g
+      own k z =
+          both-holds v H
+          (both-own (λ r. withPlace r k) (both-near (λ r. withNext r p) (both-start s p y apart room (queued-there s g v y (at .2))))) refl
+          (record {
+            low = v .books .low;
+            least = v .books .least;
+            most = v .books .most;
+            known = v .books .known;
+            past = v .books .past;
+            empty = v .books .empty;
+            last = v .books .last;
+          })
+          (subst (λ (l : ℕ). Fit (s .edition) g H p (stageAt k) l (R .next) (R .pred) (R .succ) (R .nx) (R .guard)) (sym locked) z) near
+          (λ q a b.
+          pass-fit g G (G .gone) (G .served) (H .linked) (G .releaser) (omega arith) linked-more
+          (link-asks d q ((row s q) .next) (pick (isLifting (stageAt ((row s q) .place))) ((row s q) .nx) ((row s q) .succ)) a)
+          (v .fits q))
+
+      fenced : G .fencer p ≢ 0 → Fenced (G .lagged p) (G .peeked p) 1 (R .next) (R .guard)
+      fenced z = clash (f .shut ((f .fenced z) .set)) refl
+
+      by-edition : (b : Bool) → Holds (to (putNext s y p) p (pick b 7 6)) g
+      by-edition true = own 7 (free-fit refl refl refl waiting fenced (f .plain))
+      by-edition false =
+          own 6
+          (record {
+            small = refl;
+            settles = refl;
+            duty = waiting;
+            joins = f .joins;
+            blank = tt;
+            fencing = tt;
+            peeking = tt;
+            shut = λ k. refl;
+            fenced = fenced;
+            plain = f .plain;
+          })
+
+  pub claim-holds : stageAt (R .place) ≡ claiming → Holds (Acts.claim s p) g
+  unfolding Acts.claim to putLocked putRow
+  claim-holds e =
+      by-test (λ t. Holds t g) (eqb ((row s (R .pred)) .locked) RP) claimed
+      (λ h. go s g p v room 7 (free-fit refl (f .small) (f .settles) (f .duty) (f .fenced) (f .plain)))
+    where
+      f : Fit (s .edition) g G p claiming (R .locked) (R .next) (R .pred) (R .succ) (R .nx) (R .guard)
+      f = mine s g p v room e
+
+      y : ℕ
+      y = R .pred
+
+      -- p waits: otherwise it would be y, whose locked does not fit place 6
+      waiting : eqb ((row s y) .locked) 3 ≡ true → Wait g G p (R .next)
+      waiting h = by-locked (eqb (R .locked) 0) refl
+        where
+          by-locked : (b : Bool) → eqb (R .locked) 0 ≡ b → Wait g G p (R .next)
+          by-locked true z =
+              let d : Tok g G p (R .next) = rw z at (f .duty) in
+              let w = parked-tok-at s g v y h in
+              let same : y ≡ p = same-join (w .0 .queued) (d .queued) (served-first s g v (w .0) .0 ∙ sym (served-first s g v d .0)) in
+              clash (subst (λ (q : ℕ). eqb ((row s q) .locked) 3 ≡ true) same h) (rw (eqb-true (R .locked) 0 z) refl)
+          by-locked false z = rw z at (f .duty)
+
+      claimed : eqb ((row s y) .locked) 3 ≡ true → Holds (to (putLocked s y 0) p 8) g
+      claimed h =
+          let d = waiting h in
+          let w = parked-tok-at s g v y h in
+          let first = served-first s g v (w .0) in
+          let behind = d .behind in
+          let front = first .0 in
+          let serve = first .1 in
+          let prior = before (G .gone) (g .latest p) (omega arith) in
+          let below = prior .1 in
+          let high = d .queued .high in
+          let least = prior .2 in
+          let at = maker s g v y (prior .0) (f .joins (prior .0) (prior .1) (prior .2)) (prior .2) (omega arith) in
+          let back = at .0 in
+          let mine-is : g .latest p ≡ suc (G .gone) = omega arith in
+          let apart : p ≢ y = λ z. let a : g .latest p ≡ g .latest y = ap (g .latest) z in omega arith in
+          let r = row s y in
+          let st = stageAt (r .place) in
+          let fy = v .fits y in
+          both-holds v (passed G (suc (G .gone)) (suc (G .served)) (G .linked) (G .releaser))
+          (both-own (λ r. withPlace r 8) (both-near (λ r. withLocked r 0) (both-start s p y apart room (w .2)))) refl
+          (record {
+            low = omega arith;
+            least = omega arith;
+            most = omega arith;
+            known = λ i a b. v .books .known i (omega arith) b;
+            past = v .books .past;
+            empty = λ z. absurd (let k = v .books .empty z in omega arith);
+            last = λ z. (omega arith, v .books .last z .1);
+          })
+          (free-fit refl (f .small) (f .settles)
+          (record {
+            queued = queued-map (d .queued) refl (omega arith) (omega arith) (λ i b. refl) (λ i b z. z);
+            first = omega arith;
+          })
+          (f .fenced) (f .plain))
+          (record {
+            small = refl;
+            settles = parked-settled st (w .1);
+            duty = rw (parked-out st (isNone (r .nx)) (w .1)) (λ a b c. omega arith);
+            joins = given-map (joining st) (λ b j i x k. j i x (omega arith)) (fy .joins);
+            blank = fy .blank;
+            fencing = fy .fencing;
+            peeking = fy .peeking;
+            shut = fy .shut;
+            fenced = λ z. relock (λ k. refl) (fy .fenced z);
+            plain = fy .plain;
+          })
+          (λ q a b.
+          pass-fit g G (suc (G .gone)) (suc (G .served)) (G .linked) (G .releaser) (omega arith) (λ i z. z)
+          (record {
+            raws =
+                λ k.
+                let o = k .behind in
+                let ne : g .latest q ≢ g .latest p = λ z. a (same-join (k .queued) (d .queued) z) in
+                (k .unlinked, omega arith, omega arith);
+            waits =
+                λ k.
+                let o = k .behind in
+                let ne : g .latest q ≢ g .latest p = λ z. a (same-join (k .queued) (d .queued) z) in
+                (omega arith, omega arith);
+            toks = λ k. absurd (b (same-join (k .queued) (w .0 .queued) (served-first s g v k .0 ∙ sym front)));
+            rels = λ k. absurd (let o = k .handing in omega arith);
+          })
+          (v .fits q))

@@ -1,0 +1,299 @@
+-- The steps that move no ghost: they write only the processor's own row, and what the invariant says of it stays what it was or
+-- follows from the test that the step made. First how the invariant is put together after a step that writes one row or two.
+--     own-holds, both-holds        the invariant after a step that writes one row, or two
+--     quiet                        the same where ghosts, tickets and tail stay
+--     free-fit                     what is left to show of a row at a stage of which little is said
+use Prim.Native.Nat.{ℕ, suc, _<_, _≤_}
+use mathlib.Core.Path.{_≡_, refl, sym, ap, subst, _∙_}
+use mathlib.Core.Bool.{Bool, true, false, not, _&&_, _||_}
+use mathlib.Core.Logic.{_≢_}
+use native.Mathlib.Omega.{arith}
+use lib.Dec.{eqb, leb}
+use lib.ListN.{length}
+use borrow.Author.Tests.{eqb-true, eqb-false, not-true}
+use Rattle.lock.specs.declared.Row.{Row}
+use Rattle.lock.specs.declared.LockState.{LockState}
+use Rattle.lock.specs.Choice.{pick, every}
+use Rattle.lock.specs.State.{none, isNone, isPlain, isDrawn, isGuarded, withNext, withLocked, withFlag, withPlace, withNx, row, putRow, putNext, putLocked, putFlag, to, putNx}
+use Rattle.lock.specs.Acts as Acts
+use Rattle.lock.proofs.Order.Tickets.{Tickets, isOrdered}
+use Rattle.lock.proofs.Order.Calls.{and-left, and-right}
+use Rattle.lock.proofs.Order.Writes.{Own, own-start, own-put, own-all, Both, both-all}
+use Rattle.lock.proofs.Order.Stages.{Stage, resting, clearing, swapping, arming, linking, claiming, spinning, settling, holding, serving, regaining, handing, fencing, parking, peeking, taking, lifting, stageAt, stage-by, implies, implied}
+use Rattle.lock.proofs.Order.Roles.{Role, out, wait, tok, role, settled, joining, isSwapping, fences, isTaking, isOpen, isLifting, isLeft}
+use Rattle.lock.proofs.Order.Statement.{Ghost, Books, Queued, Linked, Away, Raw, Wait, Tok, Rel, Lag, Duty, given, Fenced, Fit, FitRow, Holds}
+use Rattle.lock.proofs.Order.Carry.{clash}
+
+pub own-holds :
+    {s t : LockState} {g h : Tickets} {p : ℕ} {r : Row} (v : Holds s g) (H : Ghost) → Own s t p r → t .edition ≡ s .edition
+    → Books h H (t .tail) → FitRow (s .edition) h H p r → ((q : ℕ) → q ≢ p → FitRow (s .edition) h H q (row s q)) → Holds t h
+own-holds {s} {t} {g} {h} v H o e b mine theirs =
+    record {
+      rooms = o .rooms ∙ v .rooms;
+      ordered = subst (λ (z : ℕ). isOrdered z ≡ true) (sym e) (v .ordered);
+      ghost = H;
+      books = b;
+      fits =
+          subst (λ (z : ℕ). (q : ℕ) → FitRow z h H q (row t q)) (sym e) (own-all (FitRow (s .edition) h H) o mine theirs);
+    }
+
+pub both-holds :
+    {s t : LockState} {g h : Tickets} {p y : ℕ} {r x : Row} (v : Holds s g) (H : Ghost) → Both s t p y r x → t .edition ≡ s .edition
+    → Books h H (t .tail) → FitRow (s .edition) h H p r → FitRow (s .edition) h H y x
+    → ((q : ℕ) → q ≢ p → q ≢ y → FitRow (s .edition) h H q (row s q)) → Holds t h
+both-holds {s} {t} {g} {h} v H o e b mine near theirs =
+    record {
+      rooms = o .rooms ∙ v .rooms;
+      ordered = subst (λ (z : ℕ). isOrdered z ≡ true) (sym e) (v .ordered);
+      ghost = H;
+      books = b;
+      fits =
+          subst (λ (z : ℕ). (q : ℕ) → FitRow z h H q (row t q)) (sym e) (both-all (FitRow (s .edition) h H) o mine near theirs);
+    }
+
+pub quiet :
+    {s t : LockState} {g : Tickets} {p : ℕ} {r : Row} (v : Holds s g) → Own s t p r → t .edition ≡ s .edition → t .tail ≡ s .tail
+    → FitRow (s .edition) g (v .ghost) p r → Holds t g
+quiet {s} {t} {g} v o e l mine =
+    own-holds v (v .ghost) o e (subst (λ (z : ℕ). Books g (v .ghost) z) (sym l) (v .books)) mine (λ q d. v .fits q)
+
+-- the stages at which pred, next, succ and nx are not spoken of, beyond the role
+abbrev pub isFree : Stage → Bool
+isFree st = not (joining st) && not (isSwapping st) && not (fences st) && not (isTaking st) && isOpen st
+
+pub free-fit :
+    {e : ℕ} {g : Tickets} {G : Ghost} {q : ℕ} {st : Stage} {l next pred succ nx : ℕ} {guard : Bool} → isFree st ≡ true
+    → leb l 3 ≡ true → settled st l ≡ true → Duty (role st l (isNone nx)) g G q next succ (pick (isLifting st) nx succ)
+    → (G .fencer q ≢ 0 → Fenced (G .lagged q) (G .peeked q) l next guard) → (e ≡ 0 → guard ≡ false)
+    → Fit e g G q st l next pred succ nx guard
+free-fit {st = st} free small settles duty fenced plain =
+    let a = not (joining st) in
+    let b = not (isSwapping st) in
+    let c = not (fences st) in
+    let d = not (isTaking st) in
+    let abcd = and-left (a && b && c && d) (isOpen st) free in
+    let abc = and-left (a && b && c) d abcd in
+    let ab = and-left (a && b) c abc in
+    record {
+      small = small;
+      settles = settles;
+      duty = duty;
+      joins = rw (not-true (joining st) (and-left a b ab)) tt;
+      blank = rw (not-true (isSwapping st) (and-right a b ab)) tt;
+      fencing = rw (not-true (fences st) (and-right (a && b) c abc)) tt;
+      peeking = rw (not-true (isTaking st) (and-right (a && b && c) d abcd)) tt;
+      shut = λ k. and-right (a && b && c && d) (isOpen st) free;
+      fenced = fenced;
+      plain = plain;
+    }
+
+-- another locked on a row that may be fenced
+pub relock : {k : Bool} {z l m next : ℕ} {guard : Bool} → (isLeft l ≡ true → isLeft m ≡ true) → Fenced k z l next guard → Fenced k z m next guard
+relock f w = record { set = w .set; still = λ k. f (w .still k); kept = w .kept }
+
+pub by-test : (P : LockState → Type 0) (b : Bool) {x y : LockState} → (b ≡ true → P x) → (b ≡ false → P y) → P (pick b x y)
+by-test P true f g = f refl
+by-test P false f g = g refl
+
+left-of : (a b : Bool) → a || b ≡ true → b ≡ false → a ≡ true
+left-of true b e f = refl
+left-of false b e f = clash e f
+
+-- of the ordered editions, the one without a gate is the plain one, and none is the drawn one
+ordered-plain : (e : ℕ) → isOrdered e ≡ true → isGuarded e ≡ false → e ≡ 0
+ordered-plain e o h = eqb-true e 0 (left-of (isPlain e) (isGuarded e) o h)
+
+pub ordered-drawn : (e : ℕ) → isOrdered e ≡ true → isDrawn e ≡ false
+ordered-drawn e o = not-drawn (isDrawn e) refl
+  where
+    not-drawn : (b : Bool) → isDrawn e ≡ b → isDrawn e ≡ false
+    not-drawn true h = clash (rw (eqb-true e 1 h) at o) refl
+    not-drawn false h = h
+
+-- with the locked of neither 1 nor 2 the service's roles are the regain's
+back-role : (o x : Bool) → o || x ≡ true → pick o out (pick x tok wait) ≡ pick o out tok
+back-role true x e = refl
+back-role false true e = refl
+back-role false false e = clash e refl
+
+module _ (s : LockState) (g : Tickets) (p : ℕ) (v : Holds s g) (room : p < length (s .rows)) where
+  abbrev pub R : Row
+  R = row s p
+
+  abbrev pub G : Ghost
+  G = v .ghost
+
+  -- what is said of the own row, once the stage is known
+  pub mine : {a : Stage} → stageAt (R .place) ≡ a → Fit (s .edition) g G p a (R .locked) (R .next) (R .pred) (R .succ) (R .nx) (R .guard)
+  mine e = rw e at (v .fits p)
+
+  -- a step to another place, own cells as they are
+  pub go : (k : ℕ) → Fit (s .edition) g G p (stageAt k) (R .locked) (R .next) (R .pred) (R .succ) (R .nx) (R .guard) → Holds (to s p k) g
+  unfolding to putRow
+  go k f = quiet v (own-put (λ r. withPlace r k) (own-start s p room)) refl refl f
+
+  -- the same with a new locked
+  go-locked : (l k : ℕ) → Fit (s .edition) g G p (stageAt k) l (R .next) (R .pred) (R .succ) (R .nx) (R .guard) → Holds (to (putLocked s p l) p k) g
+  unfolding to putLocked putRow
+  go-locked l k f = quiet v (own-put (λ r. withPlace r k) (own-put (λ r. withLocked r l) (own-start s p room))) refl refl f
+
+  -- at 2 with the guard clear
+  pub open-fit : R .guard ≡ false → eqb (R .locked) 0 ≡ true → Away g G p → Fit (s .edition) g G p clearing (R .locked) (R .next) (R .pred) (R .succ) (R .nx) (R .guard)
+  open-fit clear free away =
+      record {
+        small = (v .fits p) .small;
+        settles = free;
+        duty = away;
+        joins = tt;
+        blank = tt;
+        fencing = tt;
+        peeking = tt;
+        shut = λ k. clash k clear;
+        fenced = (v .fits p) .fenced;
+        plain = (v .fits p) .plain;
+      }
+
+  -- to the queue: out of it, and the gate is there or the guard is clear
+  to-queue : eqb (R .locked) 0 ≡ true → Away g G p → Holds (Acts.toQueue s p) g
+  unfolding Acts.toQueue
+  to-queue free away = by-gate (isGuarded (s .edition)) refl
+    where
+      f : Fit (s .edition) g G p (stageAt (R .place)) (R .locked) (R .next) (R .pred) (R .succ) (R .nx) (R .guard)
+      f = v .fits p
+
+      by-gate : (b : Bool) → isGuarded (s .edition) ≡ b → Holds (to s p (pick b 1 2)) g
+      by-gate true h = go 1 (free-fit refl (f .small) free away (f .fenced) (f .plain))
+      by-gate false h = go 2 (open-fit (f .plain (ordered-plain (s .edition) (v .ordered) h)) free away)
+
+  pub rest-holds : stageAt (R .place) ≡ resting → Holds (Acts.rest s p) g
+  unfolding Acts.rest putFlag putRow
+  rest-holds e =
+      by-test (λ t. Holds t g) (R .flag)
+      (λ b. quiet v (own-put (λ r. withFlag r false) (own-start s p room)) refl refl (v .fits p))
+      (λ b. to-queue ((mine e) .settles) ((mine e) .duty))
+
+  pub gate-holds : stageAt (R .place) ≡ resting → Holds (Acts.gate s p) g
+  unfolding Acts.gate
+  gate-holds e =
+      by-test (λ t. Holds t g) (R .guard) (λ b. v) (λ b. go 2 (open-fit b ((mine e) .settles) ((mine e) .duty)))
+
+  pub clear-holds : stageAt (R .place) ≡ clearing → Holds (Acts.clear s p) g
+  unfolding Acts.clear to putNext putRow
+  clear-holds e =
+      let f = mine e in
+      quiet v (own-put (λ r. withPlace r 3) (own-put (λ r. withNext r none) (own-start s p room))) refl refl
+      (record {
+        small = f .small;
+        settles = f .settles;
+        duty = f .duty;
+        joins = tt;
+        blank = refl;
+        fencing = tt;
+        peeking = tt;
+        shut = f .shut;
+        fenced = λ d. clash (f .shut ((f .fenced d) .set)) refl;
+        plain = f .plain;
+      })
+
+  pub arm-holds : stageAt (R .place) ≡ arming → Holds (Acts.arm s p) g
+  unfolding Acts.arm
+  arm-holds e =
+      let f = mine e in
+      go-locked 1 5
+      (record {
+        small = refl;
+        settles = refl;
+        duty = f .duty;
+        joins = f .joins;
+        blank = tt;
+        fencing = tt;
+        peeking = tt;
+        shut = f .shut;
+        fenced = λ d. clash (f .shut ((f .fenced d) .set)) refl;
+        plain = f .plain;
+      })
+
+  pub spin-holds : stageAt (R .place) ≡ spinning → Holds (Acts.spin s p) g
+  unfolding Acts.spin
+  spin-holds e =
+      let f = mine e in
+      by-test (λ t. Holds t g) (eqb (R .locked) 0)
+      (λ b. go 9 (free-fit refl (f .small) b (rw b at (f .duty)) (f .fenced) (f .plain)))
+      (λ b. by-test (λ t. Holds t g) (isPlain (s .edition)) (λ c. v) (λ c. go 10 f))
+
+  pub settle-holds : stageAt (R .place) ≡ settling → Holds (Acts.settle s p) g
+  unfolding Acts.settle
+  settle-holds e =
+      let f = mine e in
+      go-locked 0 9 (free-fit refl refl refl (f .duty) (λ d. relock (λ k. refl) (f .fenced d)) (f .plain))
+
+  pub inside-holds : stageAt (R .place) ≡ holding → Holds (Acts.inside s p) g
+  unfolding Acts.inside
+  inside-holds e = go 14 (mine e)
+
+  -- the own row with its locked known
+  locked-as : {a : Stage} {l : ℕ} → stageAt (R .place) ≡ a → eqb (R .locked) l ≡ true → Fit (s .edition) g G p a l (R .next) (R .pred) (R .succ) (R .nx) (R .guard)
+  locked-as {a} {l} e h =
+      subst (λ (z : ℕ). Fit (s .edition) g G p a z (R .next) (R .pred) (R .succ) (R .nx) (R .guard)) (eqb-true (R .locked) l h) (mine e)
+
+  pub poll-holds : stageAt (R .place) ≡ spinning → Holds (Acts.poll s p) g
+  unfolding Acts.poll to putFlag putLocked putRow
+  poll-holds e =
+      by-test (λ t. Holds t g) (R .flag && eqb (R .locked) 1)
+      (λ b.
+      let f = locked-as {l = 1} e (and-right (R .flag) (eqb (R .locked) 1) b) in
+      quiet v (own-put (λ r. withPlace r 11) (own-put (λ r. withFlag r false) (own-put (λ r. withLocked r 2) (own-start s p room)))) refl refl
+      (free-fit refl refl refl (f .duty) (λ d. relock (λ k. clash k refl) (f .fenced d)) (f .plain)))
+      (λ b. go 7 (mine e))
+
+  pub service-holds : stageAt (R .place) ≡ serving → Holds (Acts.service s p) g
+  unfolding Acts.service
+  service-holds e = go 12 (mine e)
+
+  pub back-holds : stageAt (R .place) ≡ serving → Holds (Acts.back s p) g
+  unfolding Acts.back
+  back-holds e =
+      by-test (λ t. Holds t g) (eqb (R .locked) 2)
+      (λ b.
+      let f = locked-as {l = 2} e b in
+      go-locked 1 7 (free-fit refl refl refl (f .duty) (λ d. relock (λ k. clash k refl) (f .fenced d)) (f .plain)))
+      (λ b.
+      let f = mine e in
+      let o = eqb (R .locked) 0 in
+      let x = eqb (R .locked) 3 in
+      let left : o || x ≡ true = left-of (o || x) (eqb (R .locked) 2) (f .settles) b in
+      go 13
+      (free-fit refl (f .small) left
+      (subst (λ (z : Role). Duty z g G p (R .next) (R .succ) (R .succ)) (back-role o x left) (f .duty)) (f .fenced) (f .plain)))
+
+  pub regain-holds : stageAt (R .place) ≡ regaining → Holds (Acts.regain s p) g
+  unfolding Acts.regain
+  regain-holds e =
+      by-test (λ t. Holds t g) (eqb (R .locked) 3)
+      (λ b.
+      let f = locked-as {l = 3} e b in
+      go-locked 0 7 (free-fit refl refl refl (f .duty) (λ d. relock (λ k. refl) (f .fenced d)) (f .plain)))
+      (λ b.
+      let f = mine e in
+      let o : eqb (R .locked) 0 ≡ true = left-of (eqb (R .locked) 0) (eqb (R .locked) 3) (f .settles) b in
+      to-queue o (rw o at (f .duty)))
+
+  -- 20 and 21 without success: nx is none, and p lags on
+  pub lag-on : {a : Stage} → stageAt (R .place) ≡ a → fences a ≡ true → Lag g G p (R .succ) → eqb (R .locked) 0 ≡ true → (G .fencer (R .succ) ≡ suc p) × (R .succ ≢ p) → (x : ℕ) → isNone x ≡ true → Holds (Acts.toLift (putNx s p x) p) g
+  unfolding Acts.toLift to putNx putRow
+  lag-on e w d free fe x none =
+      by-test (λ t. Holds t g) (isDrawn (s .edition)) (λ b. clash b (ordered-drawn (s .edition) (v .ordered)))
+      (λ b.
+      quiet v (own-put (λ r. withPlace r 22) (own-put (λ r. withNx r x) (own-start s p room))) refl refl
+      (record {
+        small = (v .fits p) .small;
+        settles = free;
+        duty = rw none d;
+        joins = tt;
+        blank = tt;
+        fencing = fe;
+        peeking = tt;
+        shut = λ k. refl;
+        fenced = (v .fits p) .fenced;
+        plain = (v .fits p) .plain;
+      }))

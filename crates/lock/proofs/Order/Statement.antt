@@ -1,0 +1,150 @@
+-- The invariant behind demand 3: the lock refines a ticket lock. Joins are numbered; the queue is always a contiguous run of
+-- numbers, from gone up to count, and only the one at the front is served. Every clause speaks of one row, through ghosts that
+-- name who made a join and who fences a row.
+--     Ghost            what the proof remembers beside the tickets
+--     Books            what holds of tickets, ghost and tail alone
+--     Queued, Away     to be in the queue, and not to be in it
+--     Duty             what is said of a row by its role
+--     Fit, FitRow      all that is said of a row
+--     Holds            the invariant of a state
+use Prim.Native.Nat.{ℕ, suc, _<_, _≤_}
+use mathlib.Core.Path.{_≡_, refl}
+use mathlib.Core.Bool.{Bool, true, false}
+use mathlib.Core.Logic.{_≢_}
+use lib.Dec.{eqb, leb}
+use lib.ListN.{length}
+use borrow.Author.Tests.{eq-eqb, ne-eqb}
+use Rattle.lock.specs.declared.Row.{Row}
+use Rattle.lock.specs.declared.LockState.{LockState}
+use Rattle.lock.specs.Choice.{pick}
+use Rattle.lock.specs.State.{processors, none, isNone, row}
+use Rattle.lock.proofs.Order.Tickets.{Tickets, isOrdered}
+use Rattle.lock.proofs.Order.Stages.{Stage, stageAt}
+use Rattle.lock.proofs.Order.Roles.{Role, out, raw, wait, tok, rel, lag, role, settled, joining, isSwapping, fences, isTaking, isOpen, isLifting, isLeft}
+
+pub record Ghost : Type 0 where
+  -- how many joins have gone from the front of the queue; how many have had the lock given to them: as many, or one more
+  pub gone : ℕ
+  pub served : ℕ
+  -- who made join i
+  pub who : ℕ → ℕ
+  -- join i is linked: the row before it names it
+  pub linked : ℕ → Bool
+  -- who has the lock and is handing it on, if anybody
+  pub releaser : ℕ
+  -- who fences row y, one more than the processor, or 0
+  pub fencer : ℕ → ℕ
+  -- the fencer of y has parked the lock on it
+  pub lagged : ℕ → Bool
+  -- what the fencer of y has read as y's next, or none
+  pub peeked : ℕ → ℕ
+
+-- a function changed at one number
+abbrev pub upd : {A : Type 0} → (ℕ → A) → ℕ → A → ℕ → A
+upd f y v q = pick (eqb q y) v (f q)
+
+pub upd-same : {A : Type 0} (f : ℕ → A) (y : ℕ) (v : A) → upd f y v y ≡ v
+upd-same f y v = rw (eq-eqb y y refl)
+
+pub upd-other : {A : Type 0} (f : ℕ → A) (y : ℕ) (v : A) (q : ℕ) → q ≢ y → upd f y v q ≡ f q
+upd-other f y v q d = rw (ne-eqb q y d)
+
+-- t is the tail
+pub record Books (g : Tickets) (G : Ghost) (t : ℕ) : Type 0 where
+  pub low : G .gone ≤ g .count
+  pub least : G .gone ≤ G .served
+  pub most : G .served ≤ suc (G .gone)
+  -- each join still in the queue is its maker's latest
+  pub known : (i : ℕ) → G .gone ≤ i → i < g .count → g .latest (G .who i) ≡ i
+  pub past : (q : ℕ) → g .latest q ≤ g .count
+  pub empty : t ≡ none → G .gone ≡ g .count
+  pub last : t ≢ none → (G .gone < g .count) × ((i : ℕ) → suc i ≡ g .count → t ≡ G .who i)
+
+-- x made join i, which is linked and still in the queue
+pub record Linked (g : Tickets) (G : Ghost) (i x : ℕ) : Type 0 where
+  pub below : i < g .count
+  pub made : x ≡ G .who i
+  pub done : G .linked i ≡ true
+
+-- q stands in the queue; whom its next names stands right behind it
+pub record Queued (g : Tickets) (G : Ghost) (q next : ℕ) : Type 0 where
+  pub low : G .gone ≤ g .latest q
+  pub high : g .latest q < g .count
+  pub mine : G .who (g .latest q) ≡ q
+  pub chain : next ≢ none → Linked g G (suc (g .latest q)) next
+
+-- q's latest join is no longer in the queue
+abbrev pub Away : Tickets → Ghost → ℕ → Type 0
+Away g G q = G .gone ≤ g .latest q → g .latest q < g .count → G .who (g .latest q) ≡ q → ⊥
+
+pub record Raw (g : Tickets) (G : Ghost) (q next : ℕ) : Type 0 where
+  pub queued : Queued g G q next
+  pub unlinked : G .linked (g .latest q) ≡ false
+  pub later : G .gone < g .latest q
+  pub behind : G .served ≤ g .latest q
+
+pub record Wait (g : Tickets) (G : Ghost) (q next : ℕ) : Type 0 where
+  pub queued : Queued g G q next
+  pub done : G .linked (g .latest q) ≡ true
+  pub behind : G .served ≤ g .latest q
+
+pub record Tok (g : Tickets) (G : Ghost) (q next : ℕ) : Type 0 where
+  pub queued : Queued g G q next
+  pub first : g .latest q < G .served
+
+pub record Rel (g : Tickets) (G : Ghost) (q heir : ℕ) : Type 0 where
+  pub away : Away g G q
+  pub handing : G .served ≡ G .gone
+  pub only : q ≡ G .releaser
+  pub front : Linked g G (G .gone) heir
+
+pub record Lag (g : Tickets) (G : Ghost) (q succ : ℕ) : Type 0 where
+  pub away : Away g G q
+  pub fenced : G .fencer succ ≡ suc q
+  pub parked : G .lagged succ ≡ true
+
+abbrev pub Duty : Role → Tickets → Ghost → (q next succ heir : ℕ) → Type 0
+Duty out g G q next succ heir = Away g G q
+Duty raw g G q next succ heir = Raw g G q next
+Duty wait g G q next succ heir = Wait g G q next
+Duty tok g G q next succ heir = Tok g G q next
+Duty rel g G q next succ heir = Rel g G q heir
+Duty lag g G q next succ heir = Lag g G q succ
+
+-- said only where the test holds
+abbrev pub given : Bool → Type 0 → Type 0
+given true A = A
+given false A = Unit {0}
+
+pub given-map : (b : Bool) {A B : Type 0} → (b ≡ true → A → B) → given b A → given b B
+given-map true f a = f refl a
+given-map false f a = tt
+
+-- of a fenced row: its guard is set; parked on, it is not Locked or Preempted; once peeked at, its next stays
+pub record Fenced (lagged : Bool) (peeked l next : ℕ) (guard : Bool) : Type 0 where
+  pub set : guard ≡ true
+  pub still : lagged ≡ true → isLeft l ≡ true
+  pub kept : peeked ≢ none → next ≡ peeked
+
+-- e is the edition, q the processor, then its row's cells
+pub record Fit (e : ℕ) (g : Tickets) (G : Ghost) (q : ℕ) (st : Stage) (l next pred succ nx : ℕ) (guard : Bool) : Type 0 where
+  pub small : leb l 3 ≡ true
+  pub settles : settled st l ≡ true
+  pub duty : Duty (role st l (isNone nx)) g G q next succ (pick (isLifting st) nx succ)
+  pub joins : given (joining st) ((i : ℕ) → suc i ≡ g .latest q → G .gone ≤ i → pred ≡ G .who i)
+  pub blank : given (isSwapping st) (next ≡ none)
+  pub fencing : given (fences st) ((G .fencer succ ≡ suc q) × (succ ≢ q))
+  pub peeking : given (isTaking st) ((G .peeked succ ≡ nx) × (nx ≢ none))
+  pub shut : guard ≡ true → isOpen st ≡ true
+  pub fenced : G .fencer q ≢ 0 → Fenced (G .lagged q) (G .peeked q) l next guard
+  pub plain : e ≡ 0 → guard ≡ false
+
+abbrev pub FitRow : ℕ → Tickets → Ghost → ℕ → Row → Type 0
+FitRow e g G q r = Fit e g G q (stageAt (r .place)) (r .locked) (r .next) (r .pred) (r .succ) (r .nx) (r .guard)
+
+pub record Holds (s : LockState) (g : Tickets) : Type 0 where
+  pub rooms : length (s .rows) ≡ processors
+  pub ordered : isOrdered (s .edition) ≡ true
+  pub ghost : Ghost
+  pub books : Books g ghost (s .tail)
+  pub fits : (q : ℕ) → FitRow (s .edition) g ghost q (row s q)

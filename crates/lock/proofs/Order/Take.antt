@@ -1,0 +1,261 @@
+-- Places 20 to 22, of who has parked the lock on a fenced row: it peeks at that row's next, takes the lock back if it is still
+-- parked there and goes on to hand it to the next, and lifts the fence.
+use Prim.Native.Nat.{ℕ, suc, _<_, _≤_}
+use mathlib.Core.Path.{_≡_, refl, sym, ap, subst, _∙_}
+use mathlib.Core.Bool.{Bool, true, false, not}
+use mathlib.Core.Logic.{_≢_}
+use native.Mathlib.Omega.{arith}
+use lib.Dec.{eqb, leb}
+use lib.ListN.{length}
+use borrow.Author.Tests.{eqb-true, eqb-false, ne-eqb, not-true}
+use Rattle.lock.specs.declared.Row.{Row}
+use Rattle.lock.specs.declared.LockState.{LockState}
+use Rattle.lock.specs.Choice.{pick}
+use Rattle.lock.specs.State.{none, isNone, isDrawn, Released, RP, withLocked, withGuard, withPlace, withSucc, withNx, row, putRow, putLocked, putGuard, to, putSucc, putNx}
+use Rattle.lock.specs.Acts as Acts
+use Rattle.lock.proofs.Rows.{row-put-other}
+use Rattle.lock.proofs.Order.Tickets.{Tickets}
+use Rattle.lock.proofs.Order.Writes.{by-same, Own, own-start, own-put, Both, both-start, both-own, both-near, row-there}
+use Rattle.lock.proofs.Order.Stages.{Stage, peeking, taking, lifting, stageAt}
+use Rattle.lock.proofs.Order.Roles.{Role, rel, lag, role, joining, fences, isTaking, isLifting, parked-out, parked-settled, taking-lag}
+use Rattle.lock.proofs.Order.Statement.{Ghost, upd, upd-same, upd-other, Books, Linked, Queued, Away, Raw, Wait, Tok, Rel, Lag, Duty, given-map, Fenced, Fit, FitRow, Holds}
+use Rattle.lock.proofs.Order.Carry.{clash, passed, refenced, pass-fit, fenced-same, refence, refence-fit}
+use Rattle.lock.proofs.Order.Near.{duty-as, served-first, pop-asks, parked-tok-at}
+use Rattle.lock.proofs.Order.Quiet.{own-holds, both-holds, by-test, free-fit, relock, ordered-drawn, mine, lag-on}
+
+-- the books do not look at the fences
+refence-books : {g : Tickets} {G : Ghost} {t : ℕ} (F : ℕ → ℕ) (K : ℕ → Bool) (Z : ℕ → ℕ) → Books g G t → Books g (refenced G F K Z) t
+refence-books F K Z b =
+    record { low = b .low; least = b .least; most = b .most; known = b .known; past = b .past; empty = b .empty; last = b .last }
+
+module _ (s : LockState) (g : Tickets) (p : ℕ) (v : Holds s g) (room : p < length (s .rows)) where
+  abbrev R : Row
+  R = row s p
+
+  abbrev y : ℕ
+  y = R .succ
+
+  abbrev Y : Row
+  Y = row s y
+
+  abbrev G : Ghost
+  G = v .ghost
+
+  -- whom p fences no other fences
+  not-mine : G .fencer y ≡ suc p → (q x : ℕ) → q ≢ p → G .fencer x ≡ suc q → x ≢ y
+  not-mine on q x a k o = a (let z : suc q ≡ suc p = sym k ∙ ap (G .fencer) o ∙ on in omega arith)
+
+  pub peek-holds : stageAt (R .place) ≡ peeking → Holds (Acts.peek s p) g
+  unfolding Acts.peek to putNx putRow
+  peek-holds e =
+      by-test (λ t. Holds t g) (isNone (Y .next)) (λ h. lag-on s g p v room e refl d (f .settles) on (Y .next) h)
+      (λ h.
+      own-holds v (refenced G (G .fencer) (G .lagged) Z)
+      (own-put (λ r. withPlace r 21) (own-put (λ r. withNx r (Y .next)) (own-start s p room))) refl
+      (refence-books (G .fencer) (G .lagged) Z (v .books))
+      (record {
+        small = f .small;
+        settles = f .settles;
+        duty = refence g G (G .fencer) (G .lagged) Z lag p (R .next) y y (λ k. (k .fenced, k .parked)) d;
+        joins = tt;
+        blank = tt;
+        fencing = on;
+        peeking = (upd-same (G .peeked) y (Y .next), eqb-false (Y .next) none h);
+        shut = λ k. refl;
+        fenced =
+            fenced-same G (G .fencer) (G .lagged) Z p (R .locked) (R .next) (R .guard) refl refl
+            (upd-other (G .peeked) y (Y .next) p (λ k. on .1 (sym k))) (f .fenced);
+        plain = f .plain;
+      })
+      (λ q a.
+      let r = row s q in
+      let fq = v .fits q in
+      refence-fit g G (G .fencer) (G .lagged) Z (λ k. (k .fenced, k .parked)) (λ k w. w)
+      (λ k w.
+      let la : Lag g G q (r .succ) = duty-as s g v q (taking-lag (stageAt (r .place)) (r .locked) (isNone (r .nx)) (fq .small) k) in
+      (upd-other (G .peeked) y (Y .next) (r .succ) (not-mine (on .0) q (r .succ) a (la .fenced)) ∙ w .0, w .1))
+      (peeked q) fq))
+    where
+      f : Fit (s .edition) g G p peeking (R .locked) (R .next) (R .pred) (R .succ) (R .nx) (R .guard)
+      f = mine s g p v room e
+
+      d : Lag g G p y
+      d = f .duty
+
+      on : (G .fencer y ≡ suc p) × (y ≢ p)
+      on = f .fencing
+
+      Z : ℕ → ℕ
+      Z = upd (G .peeked) y (Y .next)
+
+      -- the peeked row keeps its next from now on
+      peeked : (q : ℕ) → G .fencer q ≢ 0 → Fenced (G .lagged q) (Z q) ((row s q) .locked) ((row s q) .next) ((row s q) .guard)
+      peeked =
+          by-same
+          (λ q. G .fencer q ≢ 0 → Fenced (G .lagged q) (Z q) ((row s q) .locked) ((row s q) .next) ((row s q) .guard)) y
+          (λ k. let w = (v .fits y) .fenced k in record { set = w .set; still = w .still; kept = λ n. sym (upd-same (G .peeked) y (Y .next)) })
+          (λ q b.
+          fenced-same G (G .fencer) (G .lagged) Z q ((row s q) .locked) ((row s q) .next) ((row s q) .guard) refl refl
+          (upd-other (G .peeked) y (Y .next) q b) ((v .fits q) .fenced))
+
+  -- the lock is taken back: y goes from the front, p hands on to y's next
+  taken : (e : stageAt (R .place) ≡ taking) → eqb (Y .locked) RP ≡ true → Holds (to (putLocked s y Released) p 22) g
+  unfolding to putLocked putRow
+  taken e h =
+      let f = mine s g p v room e in
+      let d = f .duty in
+      let on = f .fencing in
+      let saw = f .peeking in
+      let w = parked-tok-at s g v y h in
+      let front = served-first s g v (w .0) .0 in
+      let serve = served-first s g v (w .0) .1 in
+      let fy = v .fits y in
+      let st = stageAt (Y .place) in
+      let fenced : G .fencer y ≢ 0 = λ n. let z : suc p ≡ 0 = sym (on .0) ∙ n in omega arith in
+      let next : Y .next ≡ R .nx = (fy .fenced fenced) .kept (λ n. saw .1 (sym (saw .0) ∙ n)) ∙ saw .0 in
+      let c : Linked g G (suc (g .latest y)) (Y .next) = w .0 .queued .chain (λ n. saw .1 (sym next ∙ n)) in
+      let next-is : suc (g .latest y) ≡ suc (G .gone) = ap suc front in
+      let done : G .linked (suc (G .gone)) ≡ true = sym (ap (G .linked) next-is) ∙ c .done in
+      let below = c .below in
+      let some : isNone (R .nx) ≡ false = ne-eqb (R .nx) none (saw .1) in
+      both-holds v (passed G (suc (G .gone)) (G .served) (G .linked) p)
+      (both-own (λ r. withPlace r 22) (both-near (λ r. withLocked r Released) (both-start s p y (λ z. on .1 (sym z)) room (w .2)))) refl
+      (record {
+        low = omega arith;
+        least = omega arith;
+        most = omega arith;
+        known = λ i a b. v .books .known i (omega arith) b;
+        past = v .books .past;
+        empty = λ z. absurd (let k = v .books .empty z in omega arith);
+        last = λ z. (omega arith, v .books .last z .1);
+      })
+      (record {
+        small = f .small;
+        settles = f .settles;
+        duty =
+            rw some
+            (record {
+              away = λ a b k. d .away (omega arith) b k;
+              handing = serve;
+              only = refl;
+              front = record { below = omega arith; made = sym next ∙ c .made ∙ ap (G .who) next-is; done = done };
+            });
+        joins = tt;
+        blank = tt;
+        fencing = on;
+        peeking = tt;
+        shut = λ k. refl;
+        fenced = f .fenced;
+        plain = f .plain;
+      })
+      (record {
+        small = refl;
+        settles = parked-settled st (w .1);
+        duty = rw (parked-out st (isNone (Y .nx)) (w .1)) (λ a b k. omega arith);
+        joins = given-map (joining st) (λ b j i x k. j i x (omega arith)) (fy .joins);
+        blank = fy .blank;
+        fencing = fy .fencing;
+        peeking = fy .peeking;
+        shut = fy .shut;
+        fenced = λ z. relock (λ k. refl) (fy .fenced z);
+        plain = fy .plain;
+      })
+      (λ q a b.
+      pass-fit g G (suc (G .gone)) (G .served) (G .linked) p (omega arith) (λ i z. z)
+      (pop-asks s g v y (Y .next) p (w .0) (λ q next k z. clash (ap (G .linked) z ∙ done) (k .unlinked)) q ((row s q) .next)
+      (pick (isLifting (stageAt ((row s q) .place))) ((row s q) .nx) ((row s q) .succ)) b)
+      (v .fits q))
+
+  pub take-holds : stageAt (R .place) ≡ taking → Holds (Acts.take s p) g
+  unfolding Acts.take Acts.toLift putLocked putRow
+  take-holds e =
+      let f = mine s g p v room e in
+      by-test (λ t. Holds t g) (eqb (Y .locked) RP)
+      (λ h.
+      by-test (λ t. Holds t g) (isDrawn (s .edition)) (λ b. clash b (ordered-drawn (s .edition) (v .ordered))) (λ b. taken e h))
+      (λ h. lag-on s g p v room e refl (f .duty) (f .settles) (f .fencing) none refl)
+
+  -- y's guard is clear again: no other fences it
+  lifted :
+      {t : LockState} {r : Row} → (G .fencer y ≡ suc p) × (y ≢ p) → Both s t p y r (withGuard Y false) → t .edition ≡ s .edition
+      → t .tail ≡ s .tail → FitRow (s .edition) g (refenced G (upd (G .fencer) y 0) (G .lagged) (G .peeked)) p r → Holds t g
+  lifted {t} on o ed tl own =
+      both-holds v (refenced G F (G .lagged) (G .peeked)) o ed
+      (subst (λ (z : ℕ). Books g (refenced G F (G .lagged) (G .peeked)) z) (sym tl) (refence-books F (G .lagged) (G .peeked) (v .books))) own
+      (let w = other y (on .1) (λ k. absurd (k (upd-same (G .fencer) y 0))) in
+      record {
+        small = w .small;
+        settles = w .settles;
+        duty = w .duty;
+        joins = w .joins;
+        blank = w .blank;
+        fencing = w .fencing;
+        peeking = w .peeking;
+        shut = λ k. clash k refl;
+        fenced = λ k. absurd (k (upd-same (G .fencer) y 0));
+        plain = λ k. refl;
+      })
+      (λ q a b.
+      other q a
+      (fenced-same G F (G .lagged) (G .peeked) q ((row s q) .locked) ((row s q) .next) ((row s q) .guard)
+      (upd-other (G .fencer) y 0 q b) refl refl ((v .fits q) .fenced)))
+    where
+      F : ℕ → ℕ
+      F = upd (G .fencer) y 0
+
+      other :
+          (q : ℕ) → q ≢ p → (F q ≢ 0 → Fenced (G .lagged q) (G .peeked q) ((row s q) .locked) ((row s q) .next) ((row s q) .guard))
+          → FitRow (s .edition) g (refenced G F (G .lagged) (G .peeked)) q (row s q)
+      other q a fd =
+          let x = (row s q) .succ in
+          refence-fit g G F (G .lagged) (G .peeked)
+          (λ k. (upd-other (G .fencer) y 0 x (not-mine (on .0) q x a (k .fenced)) ∙ k .fenced, k .parked))
+          (λ k w. (upd-other (G .fencer) y 0 x (not-mine (on .0) q x a (w .0)) ∙ w .0, w .1)) (λ k w. w) fd (v .fits q)
+
+  pub lift-holds : stageAt (R .place) ≡ lifting → Holds (Acts.lift s p) g
+  unfolding Acts.lift Acts.onward to putSucc putGuard putRow
+  lift-holds e =
+      subst (λ (r : Row). Holds (pick (isNone (r .nx)) (to t p 0) (to (putSucc t p (r .nx)) p 17)) g)
+      (sym (row-put-other s y (withGuard Y false) p apart))
+      (by-test (λ t. Holds t g) (isNone (R .nx))
+      (λ h.
+      let d : Lag g G p y = rw h at (f .duty) in
+      lifted on (both-own (λ r. withPlace r 0) base) refl refl (free-fit refl (f .small) (f .settles) (d .away) own-fenced (f .plain)))
+      (λ h.
+      let d : Rel g G p (R .nx) = rw h at (f .duty) in
+      lifted on (both-own (λ r. withPlace r 17) (both-own (λ r. withSucc r (R .nx)) base)) refl refl
+      (free-fit refl (f .small) (f .settles)
+      (record {
+        away = d .away;
+        handing = d .handing;
+        only = d .only;
+        front = record { below = d .front .below; made = d .front .made; done = d .front .done };
+      })
+      own-fenced (f .plain))))
+    where
+      f : Fit (s .edition) g G p lifting (R .locked) (R .next) (R .pred) (R .succ) (R .nx) (R .guard)
+      f = mine s g p v room e
+
+      on : (G .fencer y ≡ suc p) × (y ≢ p)
+      on = f .fencing
+
+      apart : p ≢ y
+      apart k = on .1 (sym k)
+
+      t : LockState
+      t = putGuard s y false
+
+      near : y < length (s .rows)
+      near =
+          row-there s y
+          (λ k.
+          clash (sym (ap (λ (r : Row). r .guard) k) ∙ ((v .fits y) .fenced (λ n. let z : suc p ≡ 0 = sym (on .0) ∙ n in omega arith)) .set) refl)
+
+      base : Both s t p y R (withGuard Y false)
+      base = both-near (λ r. withGuard r false) (both-start s p y apart room near)
+
+      own-fenced :
+          upd (G .fencer) y 0 p ≢ 0 → Fenced (G .lagged p) (G .peeked p) (R .locked) (R .next) (R .guard)
+      own-fenced =
+          fenced-same G (upd (G .fencer) y 0) (G .lagged) (G .peeked) p (R .locked) (R .next) (R .guard)
+          (upd-other (G .fencer) y 0 p apart) refl refl (f .fenced)

@@ -1,0 +1,32 @@
+// The number generator of docs/RANDOM.md.
+pub struct Dice {
+    pub x: u64,
+    // what the last roll gave
+    pub got: u64,
+}
+
+impl Dice {
+    pub fn seeded(i: u64) -> Dice {
+        Dice {
+            x: (i % 65536 * 7919 + 17) % 2147483648,
+            got: 0,
+        }
+    }
+
+    // "draw k"
+    pub fn roll(self, k: u64) -> Dice {
+        let x = (self.x % 2147483648 * 1103515245 + 12345) % 2147483648;
+        let top = x / 32768;
+        Dice {
+            x,
+            got: below(top, k),
+        }
+    }
+}
+
+fn below(top: u64, k: u64) -> u64 {
+    if k == 0 {
+        return 0;
+    }
+    top % k
+}

@@ -1,0 +1,48 @@
+// Random and damaged schedules through the bench: a line for each with its log's length and digest, and a few logs whole. The
+// schedules are those of docs/RANDOM.md; what is printed is held to what the second program prints of the same page.
+mod dice;
+mod plan;
+mod text;
+
+use libc::STDOUT_FILENO;
+
+fn main() {
+    // 54,010 bytes for a schedule that is too long.
+    let mut schedule = [0u8; 54010];
+    let mut log = [0u8; 102028];
+    for i in 0..480u64 {
+        let length = text::make(plan::plan(i), &mut schedule);
+        if length <= schedule.len() {
+            let logged = bench::bench(&schedule[..length], &mut log);
+            let n = logged.length;
+            show(i, &log[..n]);
+        }
+    }
+}
+
+// The number of a schedule, its log's length and digest; and the log itself for a few.
+fn show(i: u64, log: &[u8]) {
+    io::print_decimal(STDOUT_FILENO, i);
+    io::write_all(STDOUT_FILENO, b" ");
+    io::print_decimal(STDOUT_FILENO, log.len() as u64);
+    io::write_all(STDOUT_FILENO, b" ");
+    io::print_decimal(STDOUT_FILENO, digest(log));
+    io::write_all(STDOUT_FILENO, b"\n");
+    if i % 120 == 5 || i % 120 == 7 {
+        io::write_all(STDOUT_FILENO, log);
+    }
+}
+
+fn digest(log: &[u8]) -> u64 {
+    let mut h: u64 = 7;
+    let mut k = 0;
+    while k < log.len() {
+        h = mixed(h, log[k]);
+        k += 1;
+    }
+    h
+}
+
+fn mixed(h: u64, b: u8) -> u64 {
+    (h % 4294967291 * 257 + b as u64 + 1) % 4294967291
+}

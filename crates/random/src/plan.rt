@@ -1,0 +1,74 @@
+// What is drawn for a schedule before its first line.
+use crate::dice::Dice;
+
+pub struct Plan {
+    pub edition: u64,
+    pub n: u64,
+    pub count: u64,
+    pub raises: u64,
+    pub stay: u64,
+    pub damage: u64,
+    pub victim: u64,
+    pub dice: Dice,
+}
+
+pub fn plan(i: u64) -> Plan {
+    let size = processors(Dice::seeded(i));
+    let n = size.got;
+    let number = lines(size, i);
+    let count = number.got;
+    let few = number.roll(4);
+    let raises = few.got;
+    let slow = few.roll(8);
+    let stay = slow.got % 8 + 1;
+    let harm = harmed(slow, i);
+    let damage = harm.got;
+    let dice = harm.roll(count);
+    Plan {
+        edition: i % 3,
+        n,
+        count,
+        raises,
+        stay,
+        damage,
+        victim: dice.got % 65536 + 1,
+        dice,
+    }
+}
+
+// N, in `got`
+fn processors(d: Dice) -> Dice {
+    let coin = d.roll(2);
+    if coin.got == 0 {
+        let many = coin.roll(16);
+        return plus(many, 1);
+    }
+    let some = coin.roll(3);
+    plus(some, 2)
+}
+
+// the number of event lines
+fn lines(d: Dice, i: u64) -> Dice {
+    if i % 40 == 38 {
+        return Dice { x: d.x, got: 6000 };
+    }
+    let some = d.roll(480);
+    plus(some, 20)
+}
+
+// the kind of damage, 0 for none
+fn harmed(d: Dice, i: u64) -> Dice {
+    if i % 4 == 3 {
+        let kind = d.roll(10);
+        return plus(kind, 1);
+    }
+    Dice { x: d.x, got: 0 }
+}
+
+// what was drawn, and so much more
+pub fn plus(d: Dice, more: u64) -> Dice {
+    Dice {
+        x: d.x,
+        got: d.got % 65536 + more % 65536,
+    }
+}

@@ -1,0 +1,214 @@
+// The bytes of a schedule, line by line, and the damage that is done to them at last.
+use crate::dice::Dice;
+use crate::plan;
+use crate::plan::Plan;
+
+// Writes the schedule into `text` and answers its length.
+pub fn make(plan: Plan, text: &mut [u8]) -> usize {
+    let d = header(plan, text);
+    let end = events(plan, d, text);
+    harm(plan, end, text)
+}
+
+// One line at `at`, where there is room for it.
+fn line(text: &mut [u8], at: usize, first: u64, second: u64, third: u64) -> usize {
+    let room = text.len();
+    if room < 9 {
+        return at;
+    }
+    if room - 9 < at {
+        return at;
+    }
+    frame::write_frame(
+        &mut text[at..],
+        (first % 256) as u8,
+        (second % 256) as u8,
+        (third % 256) as u8,
+    );
+    at + 9
+}
+
+// Line 1, and the dice after it.
+fn header(plan: Plan, text: &mut [u8]) -> Dice {
+    let d = plan.dice;
+    if plan.damage == 1 {
+        let other = d.roll(253);
+        line(text, 0, 1, other.got % 256 + 3, plan.n);
+        return other;
+    }
+    if plan.damage == 2 {
+        let wrong = outside(d);
+        line(text, 0, 1, plan.edition, wrong.got);
+        return wrong;
+    }
+    line(text, 0, 1, plan.edition, plan.n);
+    d
+}
+
+// an N that is out of range
+fn outside(d: Dice) -> Dice {
+    let coin = d.roll(2);
+    if coin.got == 0 {
+        return coin;
+    }
+    let far = coin.roll(239);
+    plan::plus(far, 17)
+}
+
+// where the text ends, the dice and the processor after a line
+struct Made {
+    at: usize,
+    p: u64,
+    dice: Dice,
+}
+
+// The event lines; answers where the text ends, with the dice.
+fn events(plan: Plan, d: Dice, text: &mut [u8]) -> Made {
+    let mut made = Made {
+        at: 9,
+        p: 0,
+        dice: d,
+    };
+    let mut j: u64 = 1;
+    while j <= plan.count {
+        if j == 65536 {
+            return made;
+        }
+        let next = event(plan, made, j, text);
+        made = next;
+        j += 1;
+    }
+    made
+}
+
+// Event line number j.
+fn event(plan: Plan, made: Made, j: u64, text: &mut [u8]) -> Made {
+    let turned = turn(plan, made);
+    let p = turned.got;
+    let drawn = turned.roll(8);
+    let kind = if drawn.got < plan.raises { 2 } else { 1 };
+    let hit = if j == plan.victim { plan.damage } else { 0 };
+    written(plan, drawn, text, made.at, kind, p, hit)
+}
+
+// the processor of the next line, in `got`
+fn turn(plan: Plan, made: Made) -> Dice {
+    let before = made.dice;
+    let d = before.roll(plan.stay);
+    if d.got == 0 {
+        return d.roll(plan.n);
+    }
+    Dice {
+        x: d.x,
+        got: made.p,
+    }
+}
+
+// An event line with the damage that its values take.
+fn written(plan: Plan, d: Dice, text: &mut [u8], at: usize, kind: u64, p: u64, hit: u64) -> Made {
+    if hit == 3 {
+        let wrong = unknown(d);
+        let end = line(text, at, 2, wrong.got, p);
+        return Made {
+            at: end,
+            p,
+            dice: wrong,
+        };
+    }
+    if hit == 4 {
+        let n = plan.n % 256;
+        let far = d.roll(256 - n);
+        let end = line(text, at, 2, kind, far.got % 256 + n);
+        return Made {
+            at: end,
+            p,
+            dice: far,
+        };
+    }
+    if hit == 5 {
+        let other = d.roll(253);
+        let end = line(text, at, other.got % 256 + 3, kind, p);
+        return Made {
+            at: end,
+            p,
+            dice: other,
+        };
+    }
+    let end = line(text, at, 2, kind, p);
+    Made {
+        at: end,
+        p,
+        dice: d,
+    }
+}
+
+// an event that there is not
+fn unknown(d: Dice) -> Dice {
+    let coin = d.roll(2);
+    if coin.got == 0 {
+        return coin;
+    }
+    let far = coin.roll(253);
+    plan::plus(far, 3)
+}
+
+// The damage to the whole text; answers its length.
+fn harm(plan: Plan, made: Made, text: &mut [u8]) -> usize {
+    let d = made.dice;
+    let end = made.at;
+    if plan.damage == 6 {
+        let place = d.roll(end as u64);
+        let byte = place.roll(256);
+        put(text, place.got, byte.got);
+    }
+    if plan.damage == 7 {
+        let short = d.roll(end as u64);
+        return (short.got % 65536) as usize;
+    }
+    if plan.damage == 8 {
+        let row = d.roll(plan.count % 65536 + 1);
+        let column = row.roll(8);
+        let byte = column.roll(7);
+        put(
+            text,
+            row.got % 65536 * 9 + column.got % 8,
+            byte.got % 7 + 58,
+        );
+    }
+    if plan.damage == 9 {
+        return filled(text, end);
+    }
+    if plan.damage == 10 {
+        let at = plan.victim % 65536 * 9 + 7;
+        swap_digit(text, at);
+    }
+    end
+}
+
+fn put(text: &mut [u8], at: u64, byte: u64) {
+    let i = (at % 1048576) as usize;
+    if i < text.len() {
+        text[i] = (byte % 256) as u8;
+    }
+}
+
+// line feeds from `end` to the end of the buffer
+fn filled(text: &mut [u8], end: usize) -> usize {
+    let mut i = end;
+    while i < text.len() {
+        text[i] = b'\n';
+        i += 1;
+    }
+    text.len()
+}
+
+fn swap_digit(text: &mut [u8], at: u64) {
+    let i = (at % 1048576) as usize;
+    if i < text.len() {
+        if text[i] == b'0' {
+            text[i] = b'1';
+        } else {
+            text[i] = b'0';
+        }
+    }
+}
