@@ -1,7 +1,7 @@
--- Demand 3, clause by clause, as types; the proofs stand in proofs/. All of them speak of the step table's runs from the fresh
--- state alone. A schedule is any list of calls, refused ones too, which change nothing; e is the edition, n is N. In order: never
--- two inside; the waiter; the demand's three claims on it; the same order with interrupts; what a caller of the library holds is
--- such a run. What is counted stands in Count, join, entry and interrupt in Run.
+-- Demand 3, clause by clause, as types; the proofs stand in proofs/. All of them speak of the step table's runs from
+-- the fresh state alone. A schedule is any list of calls, refused ones too, which change nothing; e is the edition, n
+-- is N. In order: never two inside; the waiter; the demand's three claims on it; the same order with interrupts; what
+-- a caller of the library holds is such a run. What is counted stands in Count, join, entry and interrupt in Run.
 use Prim.Native.Nat.{ℕ, suc, _-_, _≤_, _<_}
 use mathlib.Core.Path.{_≡_}
 use mathlib.Core.Bool.{true, _||_}
@@ -32,7 +32,8 @@ pub record AnyEdition (e n : ℕ) : Type 0 where
   pub least : 1 ≤ n
   pub most : n ≤ processors
 
--- "In the plain and guarded editions, over any schedule from the fresh state, two processors are never inside together."
+-- "In the plain and guarded editions, over any schedule from the fresh state, two processors are never inside
+-- together."
 abbrev pub NeverTwoInside : Type 0
 NeverTwoInside =
     (e n : ℕ) (calls : List Call) (p q : ℕ)
@@ -50,8 +51,8 @@ NeverTwoInsideAnyEdition =
     → isInside (reached e n calls) q ≡ true
     → p ≡ q
 
--- the calls between p's join, which is the call `join` after the calls `before`, and p's next entry; all of `later` where p
--- has not entered yet, so what is claimed of them holds all the while that p waits
+-- the calls between p's join, which is the call `join` after the calls `before`, and p's next entry; all of `later`
+-- where p has not entered yet, so what is claimed of them holds all the while that p waits
 abbrev pub waited : ℕ → ℕ → List Call → Call → List Call → ℕ → List Call
 waited e n before join later p = between (reached e n before) join later p
 
@@ -61,8 +62,8 @@ pub record Waits (e n : ℕ) (before : List Call) (join : Call) (later : List Ca
   pub joined : joins (reached e n before) join p ≡ true
   pub uninterrupted : interruptsIn (reached e n (before ++ join ∷ [])) (waited e n before join later p) p ≡ 0
 
--- "Between its join and its entry no processor whose latest join is later enters": when q enters there, the number of q's latest
--- join up to then is below the number of p's join.
+-- "Between its join and its entry no processor whose latest join is later enters": when q enters there, the number of
+-- q's latest join up to then is below the number of p's join.
 abbrev pub NobodyLaterEnters : Type 0
 NobodyLaterEnters =
     (e n : ℕ) (before : List Call) (join : Call) (later : List Call) (p : ℕ)
@@ -88,8 +89,10 @@ WaitsAtMost =
     → Waits e n before join later p
     → allEntriesIn (reached e n (before ++ join ∷ [])) (waited e n before join later p) ≤ n - 1
 
--- With any interrupts: p's last join before an entry is the call `join`, the calls `wait` follow, and `entry` is that entry.
-pub record LastJoin (e n : ℕ) (before : List Call) (join : Call) (wait : List Call) (entry : Call) (p : ℕ) : Type 0 where
+-- With any interrupts: p's last join before an entry is the call `join`, the calls `wait` follow, and `entry` is that
+-- entry.
+pub record LastJoin (e n : ℕ) (before : List Call) (join : Call) (wait : List Call) (entry : Call)
+    (p : ℕ) : Type 0 where
   pub ordered : Ordered e n
   pub joined : joins (reached e n before) join p ≡ true
   pub entered : enters (reached e n (before ++ join ∷ wait)) entry p ≡ true
@@ -105,8 +108,9 @@ NobodyOvertakes =
     → enters (reached e n (before ++ join ∷ seen)) other q ≡ true
     → latestJoin (freshState e n) (before ++ join ∷ seen ++ other ∷ []) q < suc (length before)
 
--- What a caller of the library holds after some calls: `LockState::fresh` gave the first state and refused nothing; each further
--- state is in what `event` answered on the one before. What the two answer is said by their contracts, `fresh` and `happens`.
+-- What a caller of the library holds after some calls: `LockState::fresh` gave the first state and refused nothing;
+-- each further state is in what `event` answered on the one before. What the two answer is said by their contracts,
+-- `fresh` and `happens`.
 pub data Held (e n : ℕ) : List Call → LockState → Type 0 where
   made : (a : Answer) → a ≡ fresh e n → a .refusal ≡ 0 → Held e n [] (a .state)
   answered : (calls : List Call) (s : LockState) (c : Call) (a : Answer)

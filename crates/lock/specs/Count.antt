@@ -1,7 +1,7 @@
--- What demand 3 counts, read off the steps of a schedule: "Joins and entries are counted from the steps of the schedule, not
--- from a stored tally." Each count goes through the calls one by one, in the run that begins at a state s. In order: how many
--- joins, entries and interrupts; the number of a latest join; the calls between a join and its entry. The claims stand in
--- Claims.
+-- What demand 3 counts, read off the steps of a schedule: "Joins and entries are counted from the steps of the
+-- schedule, not from a stored tally." Each count goes through the calls one by one, in the run that begins at a state
+-- s. In order: how many joins, entries and interrupts; the number of a latest join; the calls between a join and its
+-- entry. The claims stand in Claims.
 use Prim.Native.Nat.{ℕ, suc}
 use mathlib.Core.Bool.{Bool}
 use mathlib.Core.List.{List, [], _∷_}
@@ -43,7 +43,7 @@ unfoldable pub untilEntry : LockState → List Call → ℕ → List Call
 untilEntry s [] p = []
 untilEntry s (c ∷ cs) p = let further = untilEntry (after s c) cs p in pick (enters s c p) [] (c ∷ further)
 
--- "Between its join and its entry": p joins by the call `join` in state s, and the calls `later` follow. "If the swap finds no
--- one, join and entry are one step": then nothing is between.
+-- "Between its join and its entry": p joins by the call `join` in state s, and the calls `later` follow. "If the swap
+-- finds no one, join and entry are one step": then nothing is between.
 unfoldable pub between : LockState → Call → List Call → ℕ → List Call
 between s join later p = pick (enters s join p) [] (untilEntry (after s join) later p)
