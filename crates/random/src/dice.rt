@@ -6,9 +6,9 @@ pub struct Dice {
 }
 
 impl Dice {
-    pub fn seeded(i: u64) -> Dice {
+    pub fn seeded(i: u64, more: u64) -> Dice {
         Dice {
-            x: (i % 65536 * 7919 + 17) % 2147483648,
+            x: (i % 65536 * 7919 + more % 65536) % 2147483648,
             got: 0,
         }
     }
@@ -29,4 +29,9 @@ fn below(top: u64, k: u64) -> u64 {
         return 0;
     }
     top % k
+}
+
+// One byte more in a digest.
+pub fn mixed(h: u64, b: u8) -> u64 {
+    (h % 4294967291 * 257 + b as u64 + 1) % 4294967291
 }

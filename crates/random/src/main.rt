@@ -1,6 +1,8 @@
-// Random and damaged schedules through the bench: a line for each with its log's length and digest, and a few logs whole. The
-// schedules are those of docs/RANDOM.md; what is printed is held to what the second program prints of the same page.
+// Random and damaged schedules through the bench: a line for each with its log's length and digest, and a few logs whole. Then
+// states handed in at random, each with one event. Both are those of docs/RANDOM.md; what is printed is held to what the second
+// program prints of the same page.
 mod dice;
+mod handed;
 mod plan;
 mod text;
 
@@ -18,6 +20,19 @@ fn main() {
             show(i, &log[..n]);
         }
     }
+    for block in 0..100u64 {
+        show_block(block, handed::block(block));
+    }
+}
+
+// The number of a block of handed-in states, how many events were accepted, and the answers' digest.
+fn show_block(number: u64, block: handed::Block) {
+    io::print_decimal(STDOUT_FILENO, number);
+    io::write_all(STDOUT_FILENO, b" ");
+    io::print_decimal(STDOUT_FILENO, block.accepted);
+    io::write_all(STDOUT_FILENO, b" ");
+    io::print_decimal(STDOUT_FILENO, block.digest);
+    io::write_all(STDOUT_FILENO, b"\n");
 }
 
 // The number of a schedule, its log's length and digest; and the log itself for a few.
@@ -37,12 +52,8 @@ fn digest(log: &[u8]) -> u64 {
     let mut h: u64 = 7;
     let mut k = 0;
     while k < log.len() {
-        h = mixed(h, log[k]);
+        h = dice::mixed(h, log[k]);
         k += 1;
     }
     h
-}
-
-fn mixed(h: u64, b: u8) -> u64 {
-    (h % 4294967291 * 257 + b as u64 + 1) % 4294967291
 }

@@ -13,7 +13,7 @@ pub struct Plan {
 }
 
 pub fn plan(i: u64) -> Plan {
-    let size = processors(Dice::seeded(i));
+    let size = processors(Dice::seeded(i, 17));
     let n = size.got;
     let number = lines(size, i);
     let count = number.got;
