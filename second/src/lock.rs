@@ -1,4 +1,4 @@
-//! The lock: its state, the step table, the two events, soundness, and refusals 6 to 9.
+//! The lock: its state, the step table, the two events, soundness, and refusals 6 to 9 and 11.
 
 /// No processor.
 pub const NONE: u8 = 255;
@@ -55,6 +55,8 @@ pub const REFUSED_N: u8 = 7;
 pub const REFUSED_EVENT: u8 = 8;
 /// Refusal 9: processor not below N.
 pub const REFUSED_PROCESSOR: u8 = 9;
+/// Refusal 11: the state handed in isn't sound.
+pub const REFUSED_STATE: u8 = 11;
 
 #[derive(Clone, Copy, PartialEq, Eq, Debug)]
 pub struct Row {
@@ -108,6 +110,14 @@ impl Lock {
         self.step(processor);
         // No step starts and ends at 9, so ending there is enough.
         Ok(self.rows[processor as usize].place == INSIDE)
+    }
+
+    /// The same on a state handed in, which may be any: refusal 11 comes before 8 and 9.
+    pub fn event_handed(&mut self, event: u8, processor: u8) -> Result<bool, u8> {
+        if !self.sound() {
+            return Err(REFUSED_STATE);
+        }
+        self.event(event, processor)
     }
 
     /// The step table. Each arm does the act of one place and gives the place it goes to.

@@ -3,6 +3,7 @@
 mod bench;
 mod coverage;
 mod frame;
+mod handed;
 mod lock;
 mod order;
 mod random;
@@ -14,6 +15,7 @@ use std::process::exit;
 const USAGE: &str = "usage: second              a schedule on standard input, its log on standard output
        second random       the sizes and digests of the 480 random logs
        second schedule I   random schedule I
+       second handed       the digests of 20,000 states handed in at random; a summary on standard error
        second coverage     how often the 480 schedules take each side of the step table
        second order        what the undamaged schedules show of demand 3
        second order one    the same for one schedule on standard input
@@ -30,6 +32,11 @@ fn main() {
             Ok(i) => put(&random::schedule(i)),
             Err(_) => usage(),
         },
+        ["handed"] => {
+            let (text, summary) = handed::print();
+            put(text.as_bytes());
+            eprint!("{}", summary);
+        }
         ["coverage"] => judge(coverage::print()),
         ["order"] => judge(order::print()),
         ["order", "one"] => judge(order::print_one(&get())),

@@ -7,12 +7,12 @@ use crate::frame;
 pub const SCHEDULES: u64 = 480;
 
 /// The generator.
-struct Random {
-    x: u64,
+pub struct Random {
+    pub x: u64,
 }
 
 impl Random {
-    fn draw(&mut self, k: u64) -> u64 {
+    pub fn draw(&mut self, k: u64) -> u64 {
         self.x = (self.x * 1103515245 + 12345) % 2147483648;
         (self.x / 32768) % k
     }
@@ -107,6 +107,7 @@ pub fn print() -> Vec<u8> {
     out
 }
 
-fn digest(log: &[u8]) -> u64 {
+/// The digest of a log, or of other bytes.
+pub fn digest(log: &[u8]) -> u64 {
     log.iter().fold(7, |h, &b| (h * 257 + b as u64 + 1) % 4294967291)
 }
