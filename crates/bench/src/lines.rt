@@ -2,6 +2,7 @@
 use lock::LockState;
 ghost use mathlib.Core.Path.{_≡_};
 ghost use mathlib.Core.Bool.{cond};
+ghost use Prim.Native.Nat.{_≤_};
 ghost use Rattle.frame.specs.Writing.{leaves};
 ghost use Rattle.bench.specs.Log.{high, low, refusedAt, counted, marks, shown};
 
@@ -52,6 +53,7 @@ pub(crate) fn marks(state: LockState, event: u8, p: u8) -> u8
 // A mark's weight where it is given.
 fn mark(given: bool, weight: u8) -> u8
     ensures { λ r. ⌜ r ≡ cond «given» weight 0 ⌝ }
+    ensures { λ r. ⌜ r ≤ weight ⌝ }
 {
     if given { weight } else { 0 }
 }

@@ -3,5 +3,11 @@ pub mod Places
 pub mod Rows
 pub mod Computed
 pub mod Single
+pub mod Keeping
 pub mod Order
 pub mod Exclusion
+pub mod Waiting
+pub mod Callers
+pub mod Inside
+pub mod Claimed
+pub mod Witness

@@ -14,3 +14,4 @@ pub mod Leave
 pub mod Hand
 pub mod Take
 pub mod Invariant
+pub mod Fence

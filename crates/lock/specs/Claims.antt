@@ -8,7 +8,6 @@ use mathlib.Core.Bool.{true, _||_}
 use mathlib.Core.Logic.{_≢_}
 use mathlib.Core.List.{List, [], _∷_, _++_}
 use lib.ListN.{length}
-use lib.Dec.{leb}
 use Rattle.lock.specs.declared.LockState.{LockState}
 use Rattle.lock.specs.declared.Answer.{Answer}
 use Rattle.lock.specs.State.{processors, isPlain, isDrawn, isGuarded, freshState}

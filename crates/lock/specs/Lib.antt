@@ -6,6 +6,7 @@ pub mod Acts
 pub mod Table
 pub mod Event
 pub mod Run
+pub mod Kept
 pub mod Count
 pub mod Claims
 pub mod Cases

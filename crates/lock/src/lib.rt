@@ -5,7 +5,9 @@ ghost use Rattle.lock.specs.State.{freshState, row, putRow, putNext};
 
 mod acts;
 mod cells;
+pub mod claims;
 mod event;
+pub mod kept;
 pub mod laws;
 mod sound;
 mod table;

@@ -5,7 +5,8 @@
 --     queued-map           to stay in the queue
 --     pass-fit             a row under a changed first half
 --     refence-fit          a row under a changed second half
---     fenced-same          a row of which the fences say the same
+--     fenced-same, manned-same     a row of which the fences say the same
+--     fencing-map          a row whose fencing stays
 --     owner                who made a join that is still in the queue is in the queue
 --     clash                no test comes out both ways
 use Prim.Native.Nat.{ℕ, suc, _<_, _≤_}
@@ -17,8 +18,8 @@ use Rattle.lock.specs.Choice.{pick}
 use Rattle.lock.specs.State.{none, isNone}
 use Rattle.lock.proofs.Order.Tickets.{Tickets}
 use Rattle.lock.proofs.Order.Stages.{Stage}
-use Rattle.lock.proofs.Order.Roles.{Role, out, raw, wait, tok, rel, lag, role, isQueued, joining, fences, isTaking, isLifting}
-use Rattle.lock.proofs.Order.Statement.{Ghost, Books, Linked, Queued, Away, Raw, Wait, Tok, Rel, Lag, Duty, given, given-map, Fenced, Fit}
+use Rattle.lock.proofs.Order.Roles.{Role, out, raw, wait, tok, rel, lag, role, isQueued, joining, fences, isTaking, isOpen, isLifting}
+use Rattle.lock.proofs.Order.Statement.{Ghost, Books, Linked, Queued, Away, Raw, Wait, Tok, Rel, Lag, Duty, given-map, Fencing, Fenced, Fit}
 
 pub clash : {A : Type 0} {b : Bool} → b ≡ true → b ≡ false → A
 clash {A} {b} e f = absurd (let z : _≡_ {A = ℕ} 0 1 = cc in omega arith)
@@ -39,6 +40,11 @@ refenced G F K Z =
       lagged = K;
       peeked = Z;
     }
+
+-- the books do not look at the fences
+pub refence-books : {g : Tickets} {G : Ghost} {t : ℕ} (F : ℕ → ℕ) (K : ℕ → Bool) (Z : ℕ → ℕ) → Books g G t → Books g (refenced G F K Z) t
+refence-books F K Z b =
+    record { low = b .low; least = b .least; most = b .most; known = b .known; past = b .past; empty = b .empty; last = b .last }
 
 pub queued-map :
     {g h : Tickets} {G H : Ghost} {q next : ℕ} → Queued g G q next → h .latest q ≡ g .latest q → H .gone ≤ g .latest q → g .count ≤ h .count
@@ -107,7 +113,7 @@ module _ (g : Tickets) (G : Ghost) (a u : ℕ) (W : ℕ → Bool) (r : ℕ) (mor
         peeking = f .peeking;
         shut = f .shut;
         fenced = f .fenced;
-        plain = f .plain;
+        manned = f .manned;
       }
 
 requeue :
@@ -122,6 +128,17 @@ pub fenced-same :
 fenced-same G F K Z q l next guard f k z w d =
     let u = w (λ o. d (f ∙ o)) in
     record { set = u .set; still = λ b. u .still (sym k ∙ b); kept = λ n. u .kept (λ o. n (z ∙ o)) ∙ sym z }
+
+pub manned-same :
+    {e a b : ℕ} {guard : Bool} → b ≡ a → (guard ≡ true → (e ≢ 0) × (a ≢ 0)) → guard ≡ true → (e ≢ 0) × (b ≢ 0)
+manned-same s m k = (m k .0, λ n. m k .1 (sym s ∙ n))
+
+-- a row whose fencing stays, when fences change elsewhere
+pub fencing-map :
+    (b : Bool) (F E : ℕ → ℕ) (q succ : ℕ) → (b ≡ true → F succ ≡ suc q → E succ ≡ suc q) → ((x : ℕ) → E x ≡ suc q → F x ≡ suc q)
+    → Fencing b F q succ → Fencing b E q succ
+fencing-map true F E q succ on back w = (on refl (w .0), w .1, λ x k. w .2 x (back x k))
+fencing-map false F E q succ on back w = λ x k. w x (back x k)
 
 module _ (g : Tickets) (G : Ghost) (F : ℕ → ℕ) (K : ℕ → Bool) (Z : ℕ → ℕ) where
   -- a role's duty under other fences: only who lags looks at them
@@ -143,23 +160,25 @@ module _ (g : Tickets) (G : Ghost) (F : ℕ → ℕ) (K : ℕ → Bool) (Z : ℕ
   refence lag q next succ heir la d = let w = la d in record { away = d .away; fenced = w .0; parked = w .1 }
 
   pub refence-fit :
-      {e q : ℕ} {st : Stage} {l next pred succ nx : ℕ} {guard : Bool} → (Lag g G q succ → (F succ ≡ suc q) × (K succ ≡ true))
-      → (fences st ≡ true → (G .fencer succ ≡ suc q) × (succ ≢ q) → (F succ ≡ suc q) × (succ ≢ q))
+      {e q : ℕ} {st : Stage} {l next pred succ nx : ℕ} {guard old : Bool} → (Lag g G q succ → (F succ ≡ suc q) × (K succ ≡ true))
+      → (Fencing (fences st) (G .fencer) q succ → Fencing (fences st) F q succ)
       → (isTaking st ≡ true → (G .peeked succ ≡ nx) × (nx ≢ none) → (Z succ ≡ nx) × (nx ≢ none))
+      → (guard ≡ true → isOpen st ≡ true)
       → (F q ≢ 0 → Fenced (K q) (Z q) l next guard)
-      → Fit e g G q st l next pred succ nx guard → Fit e g (refenced G F K Z) q st l next pred succ nx guard
-  refence-fit {q = q} {st = st} {l = l} {next = next} {succ = succ} {nx = nx} la fe pe fd f =
+      → (guard ≡ true → (e ≢ 0) × (F q ≢ 0))
+      → Fit e g G q st l next pred succ nx old → Fit e g (refenced G F K Z) q st l next pred succ nx guard
+  refence-fit {q = q} {st = st} {l = l} {next = next} {succ = succ} {nx = nx} la fe pe sh fd mn f =
       record {
         small = f .small;
         settles = f .settles;
         duty = refence (role st l (isNone nx)) q next succ (pick (isLifting st) nx succ) la (f .duty);
         joins = f .joins;
         blank = f .blank;
-        fencing = given-map (fences st) fe (f .fencing);
+        fencing = fe (f .fencing);
         peeking = given-map (isTaking st) pe (f .peeking);
-        shut = f .shut;
+        shut = sh;
         fenced = fd;
-        plain = f .plain;
+        manned = mn;
       }
 
 -- who made a join that is still in the queue is in the queue

@@ -1,5 +1,4 @@
--- Places 17 to 19: the lock is handed to the heir, or the heir is fenced, and the lock is parked on it. To hand on and to park
--- both serve the heir: it has the lock from then on.
+-- Places 17 and 19: the lock is handed to the heir, or parked on it. Both serve the heir: it has the lock from then on.
 use Prim.Native.Nat.{ℕ, suc, _<_, _≤_}
 use mathlib.Core.Path.{_≡_, refl, sym, ap, subst, _∙_}
 use mathlib.Core.Bool.{Bool, true, false, not}
@@ -19,8 +18,8 @@ use Rattle.lock.proofs.Order.Calls.{sound-plain}
 use Rattle.lock.proofs.Order.Writes.{by-same, Own, own-start, own-put, Both, both-start, both-own, both-near}
 use Rattle.lock.proofs.Order.Stages.{Stage, handing, fencing, parking, stageAt}
 use Rattle.lock.proofs.Order.Roles.{Role, wait, tok, rel, lag, role, settled, fences, isTaking, isLifting, isLeft, preempted-tok, preempted-settled, wait-tok, wait-open, wait-stays, wait-fences, fences-kind, taking-lag, plain-fencing, plain-wait}
-use Rattle.lock.proofs.Order.Statement.{Ghost, upd, upd-same, upd-other, Books, Linked, Queued, Away, Raw, Wait, Tok, Rel, Lag, Duty, Fenced, Fit, FitRow, Holds}
-use Rattle.lock.proofs.Order.Carry.{clash, passed, refenced, queued-map, Asks, pass-fit, fenced-same, refence, refence-fit}
+use Rattle.lock.proofs.Order.Statement.{Ghost, upd, upd-same, upd-other, Books, Linked, Queued, Away, Raw, Wait, Tok, Rel, Lag, Duty, Fencing, Fenced, Fit, FitRow, Holds}
+use Rattle.lock.proofs.Order.Carry.{clash, passed, refenced, refence-books, queued-map, Asks, pass-fit, fenced-same, refence, refence-fit}
 use Rattle.lock.proofs.Order.Near.{same-join, roleRow, duty-as, there-some, Heir, heir-waits}
 use Rattle.lock.proofs.Order.Quiet.{own-holds, both-holds, quiet, by-test, free-fit, relock, ordered-drawn, mine, go}
 
@@ -91,7 +90,7 @@ module _ (s : LockState) (g : Tickets) (p : ℕ) (v : Holds s g) (room : p < len
       let w = wait-tok st x (subst (λ (l : ℕ). role st l x ≡ wait) h (z .waiting)) (subst (λ (l : ℕ). settled st l ≡ true) h (fy .settles)) in
       both-holds v H
       (both-own (λ r. withPlace r 0) (both-near (λ r. withLocked r Released) (both-start s p y (z .apart) room (z .near)))) refl
-      (serve-books d) (free-fit refl (f .small) (f .settles) (d .away) (f .fenced) (f .plain))
+      (serve-books d) (free-fit refl (f .small) (f .settles) (d .away) (f .fenced) (f .manned) (f .fencing))
       (record {
         small = refl;
         settles = w .1;
@@ -102,7 +101,7 @@ module _ (s : LockState) (g : Tickets) (p : ℕ) (v : Holds s g) (room : p < len
         peeking = fy .peeking;
         shut = fy .shut;
         fenced = λ k. relock (λ b. refl) (fy .fenced k);
-        plain = fy .plain;
+        manned = fy .manned;
       })
       (λ q a b.
       pass-fit g G (G .gone) (suc (G .gone)) (G .linked) (G .releaser) (omega arith) (λ i k. k)
@@ -115,7 +114,7 @@ module _ (s : LockState) (g : Tickets) (p : ℕ) (v : Holds s g) (room : p < len
       by-test (λ t. Holds t g) (isPlain (s .edition)) (λ h. handed e (plain h))
       (λ h.
       by-test (λ t. Holds t g) (eqb (Y .locked) Locked) (λ b. handed e (eqb-true (Y .locked) 1 b))
-      (λ b. rw (ordered-drawn (s .edition) (v .ordered)) (go s g p v room 18 (free-fit refl (f .small) (f .settles) (f .duty) (f .fenced) (f .plain)))))
+      (λ b. rw (ordered-drawn (s .edition) (v .ordered)) (go s g p v room 18 (free-fit refl (f .small) (f .settles) (f .duty) (f .fenced) (f .manned) (f .fencing)))))
     where
       f : Fit (s .edition) g G p handing (R .locked) (R .next) (R .pred) (R .succ) (R .nx) (R .guard)
       f = mine s g p v room e
@@ -128,118 +127,9 @@ module _ (s : LockState) (g : Tickets) (p : ℕ) (v : Holds s g) (room : p < len
           plain-wait (Y .place) (Y .locked) (isNone (Y .nx)) ((v .fits y) .small)
           (sound-plain s y fit (eqb-true (s .edition) 0 h) near) (z .waiting) ((v .fits y) .settles)
 
-  pub fence-holds : sound s ≡ true → stageAt (R .place) ≡ fencing → Holds (Acts.fence s p) g
-  unfolding Acts.fence to putGuard putRow
-  fence-holds fit e =
-      both-holds v (refenced G F K Z)
-      (both-own (λ r. withPlace r 19) (both-near (λ r. withGuard r true) (both-start s p y (z .apart) room (z .near)))) refl
-      (record {
-        low = v .books .low;
-        least = v .books .least;
-        most = v .books .most;
-        known = v .books .known;
-        past = v .books .past;
-        empty = v .books .empty;
-        last = v .books .last;
-      })
-      (record {
-        small = f .small;
-        settles = f .settles;
-        duty = refence g G F K Z rel p (R .next) y y (λ k. absurd (not-lag k)) d;
-        joins = tt;
-        blank = tt;
-        fencing = (upd-same (G .fencer) y (suc p), λ k. z .apart (sym k));
-        peeking = tt;
-        shut = λ k. refl;
-        fenced =
-            fenced-same G F K Z p (R .locked) (R .next) (R .guard) (upd-other (G .fencer) y (suc p) p (z .apart))
-            (upd-other (G .lagged) y false p (z .apart)) (upd-other (G .peeked) y none p (z .apart)) (f .fenced);
-        plain = f .plain;
-      })
-      (record {
-        small = fy .small;
-        settles = fy .settles;
-        duty =
-            refence g G F K Z (roleRow Y) y (Y .next) (Y .succ) (pick (isLifting st) (Y .nx) (Y .succ))
-            (λ k. absurd (k .away (z .queued .low) (z .queued .high) (z .queued .mine))) (fy .duty);
-        joins = fy .joins;
-        blank = fy .blank;
-        fencing = rw (not-true (fences st) (wait-fences st (Y .locked) (isNone (Y .nx)) (fy .small) (z .waiting) .0)) tt;
-        peeking = rw (not-true (isTaking st) (wait-fences st (Y .locked) (isNone (Y .nx)) (fy .small) (z .waiting) .1)) tt;
-        shut = λ k. wait-open st (Y .locked) (isNone (Y .nx)) (fy .small) (z .waiting);
-        fenced =
-            λ k.
-            record {
-              set = refl;
-              still = λ b. clash b (upd-same (G .lagged) y false);
-              kept = λ n. absurd (n (upd-same (G .peeked) y none));
-            };
-        plain = λ k. absurd (plain-fencing (R .place) (sound-plain s p fit k (rw (v .rooms) at room)) e);
-      })
-      (λ q a b.
-      let r = row s q in
-      let sq = stageAt (r .place) in
-      let fq = v .fits q in
-      refence-fit g G F K Z
-      (λ k.
-      let ne : r .succ ≢ y = not-on-heir q k in
-      (upd-other (G .fencer) y (suc p) (r .succ) ne ∙ k .fenced, upd-other (G .lagged) y false (r .succ) ne ∙ k .parked))
-      (λ k w. (
-        upd-other (G .fencer) y (suc p) (r .succ)
-            (⊎-elim
-            (λ o u. a ((duty-as s g v q {ρ = rel} o) .only ∙ sym (d .only)))
-            (λ o. not-on-heir q (duty-as s g v q {ρ = lag} o))
-            (fences-kind sq (r .locked) (isNone (r .nx)) (fq .small) k))
-            ∙ w .0,
-        w .1,
-      ))
-      (λ k w. (
-        upd-other (G .peeked) y none (r .succ)
-            (not-on-heir q (duty-as s g v q {ρ = lag} (taking-lag sq (r .locked) (isNone (r .nx)) (fq .small) k)))
-            ∙ w .0,
-        w .1,
-      ))
-      (fenced-same G F K Z q (r .locked) (r .next) (r .guard) (upd-other (G .fencer) y (suc p) q b) (upd-other (G .lagged) y false q b)
-      (upd-other (G .peeked) y none q b) (fq .fenced))
-      fq)
-    where
-      f : Fit (s .edition) g G p fencing (R .locked) (R .next) (R .pred) (R .succ) (R .nx) (R .guard)
-      f = mine s g p v room e
-
-      d : Rel g G p y
-      d = f .duty
-
-      z : Heir s g v p y
-      z = heir-waits s g v p y d
-
-      F : ℕ → ℕ
-      F = upd (G .fencer) y (suc p)
-
-      K : ℕ → Bool
-      K = upd (G .lagged) y false
-
-      Z : ℕ → ℕ
-      Z = upd (G .peeked) y none
-
-      st : Stage
-      st = stageAt (Y .place)
-
-      fy : FitRow (s .edition) g G y Y
-      fy = v .fits y
-
-      -- nobody lags on the heir: it waits, so its locked is neither Released nor R_P
-      not-on-heir : (q : ℕ) {x : ℕ} → Lag g G q x → x ≢ y
-      not-on-heir q k o =
-          let on : G .fencer y ≢ 0 = λ n. let b : suc q ≡ 0 = sym (k .fenced) ∙ ap (G .fencer) o ∙ n in omega arith in
-          clash ((fy .fenced on) .still (sym (ap (G .lagged) o) ∙ k .parked))
-          (not-true (isLeft (Y .locked)) (wait-stays st (Y .locked) (isNone (Y .nx)) (fy .small) (z .waiting) (fy .settles)))
-
-      not-lag : Lag g G p y → ⊥
-      not-lag k = not-on-heir p k refl
-
   -- the lock is parked on the heir: it is served, and p lags
   parked :
-      (e : stageAt (R .place) ≡ parking) → Y .locked ≡ 2 → Rel g G p y → (G .fencer y ≡ suc p) × (y ≢ p)
+      (e : stageAt (R .place) ≡ parking) → Y .locked ≡ 2 → Rel g G p y → Fencing true (G .fencer) p y
       → Holds (to (putLocked s y RP) p 20) g
   unfolding to putLocked putRow
   parked e h d on =
@@ -253,16 +143,7 @@ module _ (s : LockState) (g : Tickets) (p : ℕ) (v : Holds s g) (room : p < len
       let same : (q : ℕ) → q ≢ y → K q ≡ G .lagged q = λ q b. upd-other (G .lagged) y true q b in
       both-holds v (refenced H (G .fencer) K (G .peeked))
       (both-own (λ r. withPlace r 20) (both-near (λ r. withLocked r RP) (both-start s p y (z .apart) room (z .near)))) refl
-      (let b = serve-books d in
-      record {
-        low = b .low;
-        least = b .least;
-        most = b .most;
-        known = b .known;
-        past = b .past;
-        empty = b .empty;
-        last = b .last;
-      })
+      (refence-books (G .fencer) K (G .peeked) (serve-books d))
       (record {
         small = f .small;
         settles = f .settles;
@@ -273,7 +154,7 @@ module _ (s : LockState) (g : Tickets) (p : ℕ) (v : Holds s g) (room : p < len
         peeking = tt;
         shut = λ k. refl;
         fenced = fenced-same H (G .fencer) K (G .peeked) p (R .locked) (R .next) (R .guard) refl (same p (z .apart)) refl (f .fenced);
-        plain = f .plain;
+        manned = f .manned;
       })
       (record {
         small = refl;
@@ -288,12 +169,12 @@ module _ (s : LockState) (g : Tickets) (p : ℕ) (v : Holds s g) (room : p < len
         peeking = fy .peeking;
         shut = fy .shut;
         fenced = λ k. let w = fy .fenced k in record { set = w .set; still = λ b. refl; kept = w .kept };
-        plain = fy .plain;
+        manned = fy .manned;
       })
       (λ q a b.
       let r = row s q in
-      refence-fit g H (G .fencer) K (G .peeked) (λ k. (k .fenced, more (r .succ) (k .parked))) (λ k w. w) (λ k w. w)
-      (fenced-same H (G .fencer) K (G .peeked) q (r .locked) (r .next) (r .guard) refl (same q b) refl ((v .fits q) .fenced))
+      refence-fit g H (G .fencer) K (G .peeked) (λ k. (k .fenced, more (r .succ) (k .parked))) (λ w. w) (λ k w. w) ((v .fits q) .shut)
+      (fenced-same H (G .fencer) K (G .peeked) q (r .locked) (r .next) (r .guard) refl (same q b) refl ((v .fits q) .fenced)) ((v .fits q) .manned)
       (pass-fit g G (G .gone) (suc (G .gone)) (G .linked) (G .releaser) (omega arith) (λ i k. k)
       (serve-asks d q (r .next) (pick (isLifting (stageAt (r .place))) (r .nx) (r .succ)) a b) (v .fits q)))
     where
@@ -324,5 +205,5 @@ module _ (s : LockState) (g : Tickets) (p : ℕ) (v : Holds s g) (room : p < len
         peeking = tt;
         shut = λ k. refl;
         fenced = f .fenced;
-        plain = f .plain;
+        manned = f .manned;
       })))

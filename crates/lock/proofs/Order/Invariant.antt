@@ -32,7 +32,8 @@ use Rattle.lock.proofs.Order.Quiet.{quiet, free-fit, rest-holds, gate-h
 use Rattle.lock.proofs.Order.Join.{swap-holds}
 use Rattle.lock.proofs.Order.Link.{link-holds, claim-holds}
 use Rattle.lock.proofs.Order.Leave.{look-holds, await-holds, close-holds}
-use Rattle.lock.proofs.Order.Hand.{hand-holds, fence-holds, park-holds}
+use Rattle.lock.proofs.Order.Hand.{hand-holds, park-holds}
+use Rattle.lock.proofs.Order.Fence.{fence-holds}
 use Rattle.lock.proofs.Order.Take.{peek-holds, take-holds, lift-holds}
 
 pub Inv : LockState → Tickets → Type 0
@@ -69,7 +70,7 @@ inv-fresh e n ordered some many =
             empty = λ z. refl;
             last = λ z. absurd (z refl);
           };
-      fits = λ q. rw (fresh-row e n q) (free-fit refl refl refl (λ a b c. omega arith) (λ z. absurd (z refl)) (λ z. refl));
+      fits = λ q. rw (fresh-row e n q) (free-fit refl refl refl (λ a b c. omega arith) (λ z. absurd (z refl)) (λ z. clash z refl) (λ x z. omega arith));
     }
 
 -- no other place than 3 is a join
@@ -107,7 +108,7 @@ module _ (s : LockState) (g : Tickets) (p : ℕ) (v : Holds s g) (room : p < len
   acts close e = still e refl (close-holds s g p v room (ap stageOf e))
   acts await e = still e refl (await-holds s g p v room (ap stageOf e))
   acts hand e = still e refl (hand-holds s g p v room fit (ap stageOf e))
-  acts fence e = still e refl (fence-holds s g p v room fit (ap stageOf e))
+  acts fence e = still e refl (fence-holds s g p v room (ap stageOf e) fit)
   acts park e = still e refl (park-holds s g p v room (ap stageOf e))
   acts peek e = still e refl (peek-holds s g p v room (ap stageOf e))
   acts take e = still e refl (take-holds s g p v room (ap stageOf e))

@@ -122,7 +122,7 @@ module _ (g : Tickets) (G : Ghost) (p u : ℕ) (past : (q : ℕ) → g .latest q
           peeking = f .peeking;
           shut = f .shut;
           fenced = f .fenced;
-          plain = f .plain;
+          manned = f .manned;
         }
 
 module _ (s : LockState) (g : Tickets) (p : ℕ) (v : Holds s g) (room : p < length (s .rows)) where
@@ -203,7 +203,7 @@ module _ (s : LockState) (g : Tickets) (p : ℕ) (v : Holds s g) (room : p < len
           (own-put (λ r. withPlace r 9) (own-tail p (own-put (λ r. withPred r (s .tail)) (own-start s p room)))) refl
           (join-books u (f .duty) (omega arith) (omega arith))
           (free-fit refl (f .small) (f .settles)
-          (record { queued = join-queued u (r .next) (v .books .low) (f .blank); first = rw me (omega arith) }) (f .fenced) (f .plain))
+          (record { queued = join-queued u (r .next) (v .books .low) (f .blank); first = rw me (omega arith) }) (f .fenced) (f .manned) (f .fencing))
           (λ q d. join-fit g G p u (v .books .past) (λ z. absurd (omega arith)) q d (v .fits q))
       by-tail false t =
           let u = G .served in
@@ -229,10 +229,10 @@ module _ (s : LockState) (g : Tickets) (p : ℕ) (v : Holds s g) (room : p < len
                 let at : suc i ≡ g .count = x ∙ me in
                 last .1 i at ∙ sym (who-same g G p u (v .books .past) (λ z. refl) i (omega arith));
             blank = tt;
-            fencing = tt;
+            fencing = f .fencing;
             peeking = tt;
             shut = f .shut;
             fenced = f .fenced;
-            plain = f .plain;
+            manned = f .manned;
           })
           (λ q d. join-fit g G p u (v .books .past) (λ z. refl) q d (v .fits q))

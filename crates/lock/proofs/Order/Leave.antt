@@ -57,7 +57,7 @@ module _ (s : LockState) (g : Tickets) (p : ℕ) (v : Holds s g) (room : p < len
         only = refl;
         front = record { below = omega arith; made = c .made ∙ ap (G .who) next-is; done = done };
       })
-      (f .fenced) (f .plain))
+      (f .fenced) (f .manned) (f .fencing))
       (λ q a.
       pass-fit g G (suc (G .gone)) (G .served) (G .linked) p (omega arith) (λ i z. z)
       (pop-asks s g v p (R .next) p d (λ q next k z. clash (ap (G .linked) z ∙ done) (k .unlinked)) q _ _ a)
@@ -101,7 +101,7 @@ module _ (s : LockState) (g : Tickets) (p : ℕ) (v : Holds s g) (room : p < len
             empty = λ z. omega arith;
             last = λ z. absurd (z refl);
           })
-          (free-fit refl (f .small) (f .settles) (λ a b k. omega arith) (f .fenced) (f .plain))
+          (free-fit refl (f .small) (f .settles) (λ a b k. omega arith) (f .fenced) (f .manned) (f .fencing))
           (λ q a.
           pass-fit g G (suc (G .gone)) (G .served) (G .linked) (G .releaser) (omega arith) (λ i z. z)
           (pop-asks s g v p (R .next) (G .releaser) d (λ q next k z. let b = k .queued .high in omega arith) q _ _ a)

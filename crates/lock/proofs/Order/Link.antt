@@ -150,7 +150,7 @@ module _ (s : LockState) (g : Tickets) (p : ℕ) (v : Holds s g) (room : p < len
                       λ k.
                       clash (sym (ap (G .linked) next-join) ∙ (at .1 .chain (λ n. k (sym (w .kept k) ∙ n))) .done) (d .unlinked);
                 };
-            plain = h .plain;
+            manned = h .manned;
           }
 
       own : (k : ℕ) → Fit (s .edition) g H p (stageAt k) 1 (R .next) (R .pred) (R .succ) (R .nx) (R .guard) → Holds (to (putNext s y p) p k) g
@@ -176,7 +176,7 @@ module _ (s : LockState) (g : Tickets) (p : ℕ) (v : Holds s g) (room : p < len
       fenced z = clash (f .shut ((f .fenced z) .set)) refl
 
       by-edition : (b : Bool) → Holds (to (putNext s y p) p (pick b 7 6)) g
-      by-edition true = own 7 (free-fit refl refl refl waiting fenced (f .plain))
+      by-edition true = own 7 (free-fit refl refl refl waiting fenced (f .manned) (f .fencing))
       by-edition false =
           own 6
           (record {
@@ -185,18 +185,18 @@ module _ (s : LockState) (g : Tickets) (p : ℕ) (v : Holds s g) (room : p < len
             duty = waiting;
             joins = f .joins;
             blank = tt;
-            fencing = tt;
+            fencing = f .fencing;
             peeking = tt;
             shut = λ k. refl;
             fenced = fenced;
-            plain = f .plain;
+            manned = f .manned;
           })
 
   pub claim-holds : stageAt (R .place) ≡ claiming → Holds (Acts.claim s p) g
   unfolding Acts.claim to putLocked putRow
   claim-holds e =
       by-test (λ t. Holds t g) (eqb ((row s (R .pred)) .locked) RP) claimed
-      (λ h. go s g p v room 7 (free-fit refl (f .small) (f .settles) (f .duty) (f .fenced) (f .plain)))
+      (λ h. go s g p v room 7 (free-fit refl (f .small) (f .settles) (f .duty) (f .fenced) (f .manned) (f .fencing)))
     where
       f : Fit (s .edition) g G p claiming (R .locked) (R .next) (R .pred) (R .succ) (R .nx) (R .guard)
       f = mine s g p v room e
@@ -251,7 +251,7 @@ module _ (s : LockState) (g : Tickets) (p : ℕ) (v : Holds s g) (room : p < len
             queued = queued-map (d .queued) refl (omega arith) (omega arith) (λ i b. refl) (λ i b z. z);
             first = omega arith;
           })
-          (f .fenced) (f .plain))
+          (f .fenced) (f .manned) (f .fencing))
           (record {
             small = refl;
             settles = parked-settled st (w .1);
@@ -262,7 +262,7 @@ module _ (s : LockState) (g : Tickets) (p : ℕ) (v : Holds s g) (room : p < len
             peeking = fy .peeking;
             shut = fy .shut;
             fenced = λ z. relock (λ k. refl) (fy .fenced z);
-            plain = fy .plain;
+            manned = fy .manned;
           })
           (λ q a b.
           pass-fit g G (suc (G .gone)) (suc (G .served)) (G .linked) (G .releaser) (omega arith) (λ i z. z)

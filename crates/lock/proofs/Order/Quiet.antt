@@ -21,7 +21,7 @@ use Rattle.lock.proofs.Order.Calls.{and-left, and-right}
 use Rattle.lock.proofs.Order.Writes.{Own, own-start, own-put, own-all, Both, both-all}
 use Rattle.lock.proofs.Order.Stages.{Stage, resting, clearing, swapping, arming, linking, claiming, spinning, settling, holding, serving, regaining, handing, fencing, parking, peeking, taking, lifting, stageAt, stage-by, implies, implied}
 use Rattle.lock.proofs.Order.Roles.{Role, out, wait, tok, role, settled, joining, isSwapping, fences, isTaking, isOpen, isLifting, isLeft}
-use Rattle.lock.proofs.Order.Statement.{Ghost, Books, Queued, Linked, Away, Raw, Wait, Tok, Rel, Lag, Duty, given, Fenced, Fit, FitRow, Holds}
+use Rattle.lock.proofs.Order.Statement.{Ghost, Books, Queued, Linked, Away, Raw, Wait, Tok, Rel, Lag, Duty, Fencing, Fenced, Fit, FitRow, Holds}
 use Rattle.lock.proofs.Order.Carry.{clash}
 
 pub own-holds :
@@ -64,9 +64,10 @@ isFree st = not (joining st) && not (isSwapping st) && not (fences st) && not (i
 pub free-fit :
     {e : ℕ} {g : Tickets} {G : Ghost} {q : ℕ} {st : Stage} {l next pred succ nx : ℕ} {guard : Bool} → isFree st ≡ true
     → leb l 3 ≡ true → settled st l ≡ true → Duty (role st l (isNone nx)) g G q next succ (pick (isLifting st) nx succ)
-    → (G .fencer q ≢ 0 → Fenced (G .lagged q) (G .peeked q) l next guard) → (e ≡ 0 → guard ≡ false)
+    → (G .fencer q ≢ 0 → Fenced (G .lagged q) (G .peeked q) l next guard) → (guard ≡ true → (e ≢ 0) × (G .fencer q ≢ 0))
+    → ((x : ℕ) → G .fencer x ≢ suc q)
     → Fit e g G q st l next pred succ nx guard
-free-fit {st = st} free small settles duty fenced plain =
+free-fit {g = g} {G = G} {q = q} {st = st} {succ = succ} free small settles duty fenced manned idle =
     let a = not (joining st) in
     let b = not (isSwapping st) in
     let c = not (fences st) in
@@ -80,11 +81,11 @@ free-fit {st = st} free small settles duty fenced plain =
       duty = duty;
       joins = rw (not-true (joining st) (and-left a b ab)) tt;
       blank = rw (not-true (isSwapping st) (and-right a b ab)) tt;
-      fencing = rw (not-true (fences st) (and-right (a && b) c abc)) tt;
+      fencing = rw (not-true (fences st) (and-right (a && b) c abc)) idle;
       peeking = rw (not-true (isTaking st) (and-right (a && b && c) d abcd)) tt;
       shut = λ k. and-right (a && b && c && d) (isOpen st) free;
       fenced = fenced;
-      plain = plain;
+      manned = manned;
     }
 
 -- another locked on a row that may be fenced
@@ -109,6 +110,11 @@ ordered-drawn e o = not-drawn (isDrawn e) refl
     not-drawn : (b : Bool) → isDrawn e ≡ b → isDrawn e ≡ false
     not-drawn true h = clash (rw (eqb-true e 1 h) at o) refl
     not-drawn false h = h
+
+-- in the plain edition no guard is set
+clear-guard : {e : ℕ} {A : Type 0} (b : Bool) → (b ≡ true → (e ≢ 0) × A) → e ≡ 0 → b ≡ false
+clear-guard true m e = absurd (m refl .0 e)
+clear-guard false m e = refl
 
 -- with the locked of neither 1 nor 2 the service's roles are the regain's
 back-role : (o x : Bool) → o || x ≡ true → pick o out (pick x tok wait) ≡ pick o out tok
@@ -138,44 +144,46 @@ module _ (s : LockState) (g : Tickets) (p : ℕ) (v : Holds s g) (room : p < len
   go-locked l k f = quiet v (own-put (λ r. withPlace r k) (own-put (λ r. withLocked r l) (own-start s p room))) refl refl f
 
   -- at 2 with the guard clear
-  pub open-fit : R .guard ≡ false → eqb (R .locked) 0 ≡ true → Away g G p → Fit (s .edition) g G p clearing (R .locked) (R .next) (R .pred) (R .succ) (R .nx) (R .guard)
-  open-fit clear free away =
+  open-fit :
+      R .guard ≡ false → eqb (R .locked) 0 ≡ true → Away g G p → ((x : ℕ) → G .fencer x ≢ suc p)
+      → Fit (s .edition) g G p clearing (R .locked) (R .next) (R .pred) (R .succ) (R .nx) (R .guard)
+  open-fit clear free away idle =
       record {
         small = (v .fits p) .small;
         settles = free;
         duty = away;
         joins = tt;
         blank = tt;
-        fencing = tt;
+        fencing = idle;
         peeking = tt;
         shut = λ k. clash k clear;
         fenced = (v .fits p) .fenced;
-        plain = (v .fits p) .plain;
+        manned = (v .fits p) .manned;
       }
 
   -- to the queue: out of it, and the gate is there or the guard is clear
-  to-queue : eqb (R .locked) 0 ≡ true → Away g G p → Holds (Acts.toQueue s p) g
+  to-queue : eqb (R .locked) 0 ≡ true → Away g G p → ((x : ℕ) → G .fencer x ≢ suc p) → Holds (Acts.toQueue s p) g
   unfolding Acts.toQueue
-  to-queue free away = by-gate (isGuarded (s .edition)) refl
+  to-queue free away idle = by-gate (isGuarded (s .edition)) refl
     where
       f : Fit (s .edition) g G p (stageAt (R .place)) (R .locked) (R .next) (R .pred) (R .succ) (R .nx) (R .guard)
       f = v .fits p
 
       by-gate : (b : Bool) → isGuarded (s .edition) ≡ b → Holds (to s p (pick b 1 2)) g
-      by-gate true h = go 1 (free-fit refl (f .small) free away (f .fenced) (f .plain))
-      by-gate false h = go 2 (open-fit (f .plain (ordered-plain (s .edition) (v .ordered) h)) free away)
+      by-gate true h = go 1 (free-fit refl (f .small) free away (f .fenced) (f .manned) idle)
+      by-gate false h = go 2 (open-fit (clear-guard (R .guard) (f .manned) (ordered-plain (s .edition) (v .ordered) h)) free away idle)
 
   pub rest-holds : stageAt (R .place) ≡ resting → Holds (Acts.rest s p) g
   unfolding Acts.rest putFlag putRow
   rest-holds e =
       by-test (λ t. Holds t g) (R .flag)
       (λ b. quiet v (own-put (λ r. withFlag r false) (own-start s p room)) refl refl (v .fits p))
-      (λ b. to-queue ((mine e) .settles) ((mine e) .duty))
+      (λ b. to-queue ((mine e) .settles) ((mine e) .duty) ((mine e) .fencing))
 
   pub gate-holds : stageAt (R .place) ≡ resting → Holds (Acts.gate s p) g
   unfolding Acts.gate
   gate-holds e =
-      by-test (λ t. Holds t g) (R .guard) (λ b. v) (λ b. go 2 (open-fit b ((mine e) .settles) ((mine e) .duty)))
+      by-test (λ t. Holds t g) (R .guard) (λ b. v) (λ b. go 2 (open-fit b ((mine e) .settles) ((mine e) .duty) ((mine e) .fencing)))
 
   pub clear-holds : stageAt (R .place) ≡ clearing → Holds (Acts.clear s p) g
   unfolding Acts.clear to putNext putRow
@@ -188,11 +196,11 @@ module _ (s : LockState) (g : Tickets) (p : ℕ) (v : Holds s g) (room : p < len
         duty = f .duty;
         joins = tt;
         blank = refl;
-        fencing = tt;
+        fencing = f .fencing;
         peeking = tt;
         shut = f .shut;
         fenced = λ d. clash (f .shut ((f .fenced d) .set)) refl;
-        plain = f .plain;
+        manned = f .manned;
       })
 
   pub arm-holds : stageAt (R .place) ≡ arming → Holds (Acts.arm s p) g
@@ -206,11 +214,11 @@ module _ (s : LockState) (g : Tickets) (p : ℕ) (v : Holds s g) (room : p < len
         duty = f .duty;
         joins = f .joins;
         blank = tt;
-        fencing = tt;
+        fencing = f .fencing;
         peeking = tt;
         shut = f .shut;
         fenced = λ d. clash (f .shut ((f .fenced d) .set)) refl;
-        plain = f .plain;
+        manned = f .manned;
       })
 
   pub spin-holds : stageAt (R .place) ≡ spinning → Holds (Acts.spin s p) g
@@ -218,14 +226,14 @@ module _ (s : LockState) (g : Tickets) (p : ℕ) (v : Holds s g) (room : p < len
   spin-holds e =
       let f = mine e in
       by-test (λ t. Holds t g) (eqb (R .locked) 0)
-      (λ b. go 9 (free-fit refl (f .small) b (rw b at (f .duty)) (f .fenced) (f .plain)))
+      (λ b. go 9 (free-fit refl (f .small) b (rw b at (f .duty)) (f .fenced) (f .manned) (f .fencing)))
       (λ b. by-test (λ t. Holds t g) (isPlain (s .edition)) (λ c. v) (λ c. go 10 f))
 
   pub settle-holds : stageAt (R .place) ≡ settling → Holds (Acts.settle s p) g
   unfolding Acts.settle
   settle-holds e =
       let f = mine e in
-      go-locked 0 9 (free-fit refl refl refl (f .duty) (λ d. relock (λ k. refl) (f .fenced d)) (f .plain))
+      go-locked 0 9 (free-fit refl refl refl (f .duty) (λ d. relock (λ k. refl) (f .fenced d)) (f .manned) (f .fencing))
 
   pub inside-holds : stageAt (R .place) ≡ holding → Holds (Acts.inside s p) g
   unfolding Acts.inside
@@ -243,7 +251,7 @@ module _ (s : LockState) (g : Tickets) (p : ℕ) (v : Holds s g) (room : p < len
       (λ b.
       let f = locked-as {l = 1} e (and-right (R .flag) (eqb (R .locked) 1) b) in
       quiet v (own-put (λ r. withPlace r 11) (own-put (λ r. withFlag r false) (own-put (λ r. withLocked r 2) (own-start s p room)))) refl refl
-      (free-fit refl refl refl (f .duty) (λ d. relock (λ k. clash k refl) (f .fenced d)) (f .plain)))
+      (free-fit refl refl refl (f .duty) (λ d. relock (λ k. clash k refl) (f .fenced d)) (f .manned) (f .fencing)))
       (λ b. go 7 (mine e))
 
   pub service-holds : stageAt (R .place) ≡ serving → Holds (Acts.service s p) g
@@ -256,7 +264,7 @@ module _ (s : LockState) (g : Tickets) (p : ℕ) (v : Holds s g) (room : p < len
       by-test (λ t. Holds t g) (eqb (R .locked) 2)
       (λ b.
       let f = locked-as {l = 2} e b in
-      go-locked 1 7 (free-fit refl refl refl (f .duty) (λ d. relock (λ k. clash k refl) (f .fenced d)) (f .plain)))
+      go-locked 1 7 (free-fit refl refl refl (f .duty) (λ d. relock (λ k. clash k refl) (f .fenced d)) (f .manned) (f .fencing)))
       (λ b.
       let f = mine e in
       let o = eqb (R .locked) 0 in
@@ -264,7 +272,7 @@ module _ (s : LockState) (g : Tickets) (p : ℕ) (v : Holds s g) (room : p < len
       let left : o || x ≡ true = left-of (o || x) (eqb (R .locked) 2) (f .settles) b in
       go 13
       (free-fit refl (f .small) left
-      (subst (λ (z : Role). Duty z g G p (R .next) (R .succ) (R .succ)) (back-role o x left) (f .duty)) (f .fenced) (f .plain)))
+      (subst (λ (z : Role). Duty z g G p (R .next) (R .succ) (R .succ)) (back-role o x left) (f .duty)) (f .fenced) (f .manned) (f .fencing)))
 
   pub regain-holds : stageAt (R .place) ≡ regaining → Holds (Acts.regain s p) g
   unfolding Acts.regain
@@ -272,16 +280,18 @@ module _ (s : LockState) (g : Tickets) (p : ℕ) (v : Holds s g) (room : p < len
       by-test (λ t. Holds t g) (eqb (R .locked) 3)
       (λ b.
       let f = locked-as {l = 3} e b in
-      go-locked 0 7 (free-fit refl refl refl (f .duty) (λ d. relock (λ k. refl) (f .fenced d)) (f .plain)))
+      go-locked 0 7 (free-fit refl refl refl (f .duty) (λ d. relock (λ k. refl) (f .fenced d)) (f .manned) (f .fencing)))
       (λ b.
       let f = mine e in
       let o : eqb (R .locked) 0 ≡ true = left-of (eqb (R .locked) 0) (eqb (R .locked) 3) (f .settles) b in
-      to-queue o (rw o at (f .duty)))
+      to-queue o (rw o at (f .duty)) (f .fencing))
 
   -- 20 and 21 without success: nx is none, and p lags on
-  pub lag-on : {a : Stage} → stageAt (R .place) ≡ a → fences a ≡ true → Lag g G p (R .succ) → eqb (R .locked) 0 ≡ true → (G .fencer (R .succ) ≡ suc p) × (R .succ ≢ p) → (x : ℕ) → isNone x ≡ true → Holds (Acts.toLift (putNx s p x) p) g
+  pub lag-on :
+      Lag g G p (R .succ) → eqb (R .locked) 0 ≡ true → Fencing true (G .fencer) p (R .succ) → (x : ℕ) → isNone x ≡ true
+      → Holds (Acts.toLift (putNx s p x) p) g
   unfolding Acts.toLift to putNx putRow
-  lag-on e w d free fe x none =
+  lag-on d free fe x none =
       by-test (λ t. Holds t g) (isDrawn (s .edition)) (λ b. clash b (ordered-drawn (s .edition) (v .ordered)))
       (λ b.
       quiet v (own-put (λ r. withPlace r 22) (own-put (λ r. withNx r x) (own-start s p room))) refl refl
@@ -295,5 +305,5 @@ module _ (s : LockState) (g : Tickets) (p : ℕ) (v : Holds s g) (room : p < len
         peeking = tt;
         shut = λ k. refl;
         fenced = (v .fits p) .fenced;
-        plain = (v .fits p) .plain;
+        manned = (v .fits p) .manned;
       }))

@@ -8,12 +8,12 @@
 --     Fit, FitRow      all that is said of a row
 --     Holds            the invariant of a state
 use Prim.Native.Nat.{ℕ, suc, _<_, _≤_}
-use mathlib.Core.Path.{_≡_, refl}
+use mathlib.Core.Path.{_≡_, refl, sym, ap, _∙_}
 use mathlib.Core.Bool.{Bool, true, false}
 use mathlib.Core.Logic.{_≢_}
 use lib.Dec.{eqb, leb}
 use lib.ListN.{length}
-use borrow.Author.Tests.{eq-eqb, ne-eqb}
+use borrow.Author.Tests.{eqb-true, eqb-false, eq-eqb, ne-eqb}
 use Rattle.lock.specs.declared.Row.{Row}
 use Rattle.lock.specs.declared.LockState.{LockState}
 use Rattle.lock.specs.Choice.{pick}
@@ -48,6 +48,14 @@ upd-same f y v = rw (eq-eqb y y refl)
 
 pub upd-other : {A : Type 0} (f : ℕ → A) (y : ℕ) (v : A) (q : ℕ) → q ≢ y → upd f y v q ≡ f q
 upd-other f y v q d = rw (ne-eqb q y d)
+
+-- a value other than the new one was there before
+pub upd-back : (f : ℕ → ℕ) (y v q x : ℕ) → v ≢ q → upd f y v x ≡ q → f x ≡ q
+upd-back f y v q x d e = by-test (eqb x y) refl
+  where
+    by-test : (b : Bool) → eqb x y ≡ b → f x ≡ q
+    by-test true t = absurd (d (sym (upd-same f y v) ∙ ap (upd f y v) (sym (eqb-true x y t)) ∙ e))
+    by-test false t = sym (upd-other f y v x (eqb-false x y t)) ∙ e
 
 -- t is the tail
 pub record Books (g : Tickets) (G : Ghost) (t : ℕ) : Type 0 where
@@ -120,6 +128,11 @@ pub given-map : (b : Bool) {A B : Type 0} → (b ≡ true → A → B) → given
 given-map true f a = f refl a
 given-map false f a = tt
 
+-- who fences does so to its succ, another row, and to no other; who does not fence does so to none
+abbrev pub Fencing : Bool → (ℕ → ℕ) → (q succ : ℕ) → Type 0
+Fencing true F q succ = (F succ ≡ suc q) × (succ ≢ q) × ((x : ℕ) → F x ≡ suc q → x ≡ succ)
+Fencing false F q succ = (x : ℕ) → F x ≢ suc q
+
 -- of a fenced row: its guard is set; parked on, it is not Locked or Preempted; once peeked at, its next stays
 pub record Fenced (lagged : Bool) (peeked l next : ℕ) (guard : Bool) : Type 0 where
   pub set : guard ≡ true
@@ -133,11 +146,11 @@ pub record Fit (e : ℕ) (g : Tickets) (G : Ghost) (q : ℕ) (st : Stage) (l nex
   pub duty : Duty (role st l (isNone nx)) g G q next succ (pick (isLifting st) nx succ)
   pub joins : given (joining st) ((i : ℕ) → suc i ≡ g .latest q → G .gone ≤ i → pred ≡ G .who i)
   pub blank : given (isSwapping st) (next ≡ none)
-  pub fencing : given (fences st) ((G .fencer succ ≡ suc q) × (succ ≢ q))
+  pub fencing : Fencing (fences st) (G .fencer) q succ
   pub peeking : given (isTaking st) ((G .peeked succ ≡ nx) × (nx ≢ none))
   pub shut : guard ≡ true → isOpen st ≡ true
   pub fenced : G .fencer q ≢ 0 → Fenced (G .lagged q) (G .peeked q) l next guard
-  pub plain : e ≡ 0 → guard ≡ false
+  pub manned : guard ≡ true → (e ≢ 0) × (G .fencer q ≢ 0)
 
 abbrev pub FitRow : ℕ → Tickets → Ghost → ℕ → Row → Type 0
 FitRow e g G q r = Fit e g G q (stageAt (r .place)) (r .locked) (r .next) (r .pred) (r .succ) (r .nx) (r .guard)

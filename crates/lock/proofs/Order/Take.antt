@@ -17,16 +17,11 @@ use Rattle.lock.proofs.Rows.{row-put-other}
 use Rattle.lock.proofs.Order.Tickets.{Tickets}
 use Rattle.lock.proofs.Order.Writes.{by-same, Own, own-start, own-put, Both, both-start, both-own, both-near, row-there}
 use Rattle.lock.proofs.Order.Stages.{Stage, peeking, taking, lifting, stageAt}
-use Rattle.lock.proofs.Order.Roles.{Role, rel, lag, role, joining, fences, isTaking, isLifting, parked-out, parked-settled, taking-lag}
-use Rattle.lock.proofs.Order.Statement.{Ghost, upd, upd-same, upd-other, Books, Linked, Queued, Away, Raw, Wait, Tok, Rel, Lag, Duty, given-map, Fenced, Fit, FitRow, Holds}
-use Rattle.lock.proofs.Order.Carry.{clash, passed, refenced, pass-fit, fenced-same, refence, refence-fit}
+use Rattle.lock.proofs.Order.Roles.{Role, rel, lag, role, joining, fences, isTaking, isOpen, isLifting, parked-out, parked-settled, taking-lag}
+use Rattle.lock.proofs.Order.Statement.{Ghost, upd, upd-same, upd-other, upd-back, Books, Linked, Queued, Away, Raw, Wait, Tok, Rel, Lag, Duty, given-map, Fencing, Fenced, Fit, FitRow, Holds}
+use Rattle.lock.proofs.Order.Carry.{clash, passed, refenced, refence-books, pass-fit, fenced-same, manned-same, fencing-map, refence, refence-fit}
 use Rattle.lock.proofs.Order.Near.{duty-as, served-first, pop-asks, parked-tok-at}
 use Rattle.lock.proofs.Order.Quiet.{own-holds, both-holds, by-test, free-fit, relock, ordered-drawn, mine, lag-on}
-
--- the books do not look at the fences
-refence-books : {g : Tickets} {G : Ghost} {t : ℕ} (F : ℕ → ℕ) (K : ℕ → Bool) (Z : ℕ → ℕ) → Books g G t → Books g (refenced G F K Z) t
-refence-books F K Z b =
-    record { low = b .low; least = b .least; most = b .most; known = b .known; past = b .past; empty = b .empty; last = b .last }
 
 module _ (s : LockState) (g : Tickets) (p : ℕ) (v : Holds s g) (room : p < length (s .rows)) where
   abbrev R : Row
@@ -48,7 +43,7 @@ module _ (s : LockState) (g : Tickets) (p : ℕ) (v : Holds s g) (room : p < len
   pub peek-holds : stageAt (R .place) ≡ peeking → Holds (Acts.peek s p) g
   unfolding Acts.peek to putNx putRow
   peek-holds e =
-      by-test (λ t. Holds t g) (isNone (Y .next)) (λ h. lag-on s g p v room e refl d (f .settles) on (Y .next) h)
+      by-test (λ t. Holds t g) (isNone (Y .next)) (λ h. lag-on s g p v room d (f .settles) on (Y .next) h)
       (λ h.
       own-holds v (refenced G (G .fencer) (G .lagged) Z)
       (own-put (λ r. withPlace r 21) (own-put (λ r. withNx r (Y .next)) (own-start s p room))) refl
@@ -65,16 +60,16 @@ module _ (s : LockState) (g : Tickets) (p : ℕ) (v : Holds s g) (room : p < len
         fenced =
             fenced-same G (G .fencer) (G .lagged) Z p (R .locked) (R .next) (R .guard) refl refl
             (upd-other (G .peeked) y (Y .next) p (λ k. on .1 (sym k))) (f .fenced);
-        plain = f .plain;
+        manned = f .manned;
       })
       (λ q a.
       let r = row s q in
       let fq = v .fits q in
-      refence-fit g G (G .fencer) (G .lagged) Z (λ k. (k .fenced, k .parked)) (λ k w. w)
+      refence-fit g G (G .fencer) (G .lagged) Z (λ k. (k .fenced, k .parked)) (λ w. w)
       (λ k w.
       let la : Lag g G q (r .succ) = duty-as s g v q (taking-lag (stageAt (r .place)) (r .locked) (isNone (r .nx)) (fq .small) k) in
       (upd-other (G .peeked) y (Y .next) (r .succ) (not-mine (on .0) q (r .succ) a (la .fenced)) ∙ w .0, w .1))
-      (peeked q) fq))
+      (fq .shut) (peeked q) (fq .manned) fq))
     where
       f : Fit (s .edition) g G p peeking (R .locked) (R .next) (R .pred) (R .succ) (R .nx) (R .guard)
       f = mine s g p v room e
@@ -82,7 +77,7 @@ module _ (s : LockState) (g : Tickets) (p : ℕ) (v : Holds s g) (room : p < len
       d : Lag g G p y
       d = f .duty
 
-      on : (G .fencer y ≡ suc p) × (y ≢ p)
+      on : Fencing true (G .fencer) p y
       on = f .fencing
 
       Z : ℕ → ℕ
@@ -146,7 +141,7 @@ module _ (s : LockState) (g : Tickets) (p : ℕ) (v : Holds s g) (room : p < len
         peeking = tt;
         shut = λ k. refl;
         fenced = f .fenced;
-        plain = f .plain;
+        manned = f .manned;
       })
       (record {
         small = refl;
@@ -158,7 +153,7 @@ module _ (s : LockState) (g : Tickets) (p : ℕ) (v : Holds s g) (room : p < len
         peeking = fy .peeking;
         shut = fy .shut;
         fenced = λ z. relock (λ k. refl) (fy .fenced z);
-        plain = fy .plain;
+        manned = fy .manned;
       })
       (λ q a b.
       pass-fit g G (suc (G .gone)) (G .served) (G .linked) p (omega arith) (λ i z. z)
@@ -173,44 +168,39 @@ module _ (s : LockState) (g : Tickets) (p : ℕ) (v : Holds s g) (room : p < len
       by-test (λ t. Holds t g) (eqb (Y .locked) RP)
       (λ h.
       by-test (λ t. Holds t g) (isDrawn (s .edition)) (λ b. clash b (ordered-drawn (s .edition) (v .ordered))) (λ b. taken e h))
-      (λ h. lag-on s g p v room e refl (f .duty) (f .settles) (f .fencing) none refl)
+      (λ h. lag-on s g p v room (f .duty) (f .settles) (f .fencing) none refl)
 
   -- y's guard is clear again: no other fences it
   lifted :
-      {t : LockState} {r : Row} → (G .fencer y ≡ suc p) × (y ≢ p) → Both s t p y r (withGuard Y false) → t .edition ≡ s .edition
+      {t : LockState} {r : Row} → Fencing true (G .fencer) p y → Both s t p y r (withGuard Y false) → t .edition ≡ s .edition
       → t .tail ≡ s .tail → FitRow (s .edition) g (refenced G (upd (G .fencer) y 0) (G .lagged) (G .peeked)) p r → Holds t g
   lifted {t} on o ed tl own =
       both-holds v (refenced G F (G .lagged) (G .peeked)) o ed
       (subst (λ (z : ℕ). Books g (refenced G F (G .lagged) (G .peeked)) z) (sym tl) (refence-books F (G .lagged) (G .peeked) (v .books))) own
-      (let w = other y (on .1) (λ k. absurd (k (upd-same (G .fencer) y 0))) in
-      record {
-        small = w .small;
-        settles = w .settles;
-        duty = w .duty;
-        joins = w .joins;
-        blank = w .blank;
-        fencing = w .fencing;
-        peeking = w .peeking;
-        shut = λ k. clash k refl;
-        fenced = λ k. absurd (k (upd-same (G .fencer) y 0));
-        plain = λ k. refl;
-      })
+      (other y (on .1) false (λ k. clash k refl) (λ k. absurd (k (upd-same (G .fencer) y 0))) (λ k. clash k refl))
       (λ q a b.
-      other q a
+      other q a ((row s q) .guard) ((v .fits q) .shut)
       (fenced-same G F (G .lagged) (G .peeked) q ((row s q) .locked) ((row s q) .next) ((row s q) .guard)
-      (upd-other (G .fencer) y 0 q b) refl refl ((v .fits q) .fenced)))
+      (upd-other (G .fencer) y 0 q b) refl refl ((v .fits q) .fenced))
+      (manned-same (upd-other (G .fencer) y 0 q b) ((v .fits q) .manned)))
     where
       F : ℕ → ℕ
       F = upd (G .fencer) y 0
 
+      -- whoever is not p, with its guard as it is now
       other :
-          (q : ℕ) → q ≢ p → (F q ≢ 0 → Fenced (G .lagged q) (G .peeked q) ((row s q) .locked) ((row s q) .next) ((row s q) .guard))
-          → FitRow (s .edition) g (refenced G F (G .lagged) (G .peeked)) q (row s q)
-      other q a fd =
+          (q : ℕ) → q ≢ p → (guard : Bool) → (guard ≡ true → isOpen (stageAt ((row s q) .place)) ≡ true)
+          → (F q ≢ 0 → Fenced (G .lagged q) (G .peeked q) ((row s q) .locked) ((row s q) .next) guard)
+          → (guard ≡ true → (s .edition ≢ 0) × (F q ≢ 0))
+          → FitRow (s .edition) g (refenced G F (G .lagged) (G .peeked)) q (withGuard (row s q) guard)
+      other q a guard sh fd mn =
           let x = (row s q) .succ in
           refence-fit g G F (G .lagged) (G .peeked)
           (λ k. (upd-other (G .fencer) y 0 x (not-mine (on .0) q x a (k .fenced)) ∙ k .fenced, k .parked))
-          (λ k w. (upd-other (G .fencer) y 0 x (not-mine (on .0) q x a (w .0)) ∙ w .0, w .1)) (λ k w. w) fd (v .fits q)
+          (fencing-map (fences (stageAt ((row s q) .place))) (G .fencer) F q x
+          (λ b k. upd-other (G .fencer) y 0 x (not-mine (on .0) q x a k) ∙ k)
+          (λ x k. upd-back (G .fencer) y 0 (suc q) x (λ z. omega arith) k))
+          (λ k w. w) sh fd mn (v .fits q)
 
   pub lift-holds : stageAt (R .place) ≡ lifting → Holds (Acts.lift s p) g
   unfolding Acts.lift Acts.onward to putSucc putGuard putRow
@@ -220,7 +210,7 @@ module _ (s : LockState) (g : Tickets) (p : ℕ) (v : Holds s g) (room : p < len
       (by-test (λ t. Holds t g) (isNone (R .nx))
       (λ h.
       let d : Lag g G p y = rw h at (f .duty) in
-      lifted on (both-own (λ r. withPlace r 0) base) refl refl (free-fit refl (f .small) (f .settles) (d .away) own-fenced (f .plain)))
+      lifted on (both-own (λ r. withPlace r 0) base) refl refl (free-fit refl (f .small) (f .settles) (d .away) own-fenced own-manned idle))
       (λ h.
       let d : Rel g G p (R .nx) = rw h at (f .duty) in
       lifted on (both-own (λ r. withPlace r 17) (both-own (λ r. withSucc r (R .nx)) base)) refl refl
@@ -231,12 +221,12 @@ module _ (s : LockState) (g : Tickets) (p : ℕ) (v : Holds s g) (room : p < len
         only = d .only;
         front = record { below = d .front .below; made = d .front .made; done = d .front .done };
       })
-      own-fenced (f .plain))))
+      own-fenced own-manned idle)))
     where
       f : Fit (s .edition) g G p lifting (R .locked) (R .next) (R .pred) (R .succ) (R .nx) (R .guard)
       f = mine s g p v room e
 
-      on : (G .fencer y ≡ suc p) × (y ≢ p)
+      on : Fencing true (G .fencer) p y
       on = f .fencing
 
       apart : p ≢ y
@@ -259,3 +249,12 @@ module _ (s : LockState) (g : Tickets) (p : ℕ) (v : Holds s g) (room : p < len
       own-fenced =
           fenced-same G (upd (G .fencer) y 0) (G .lagged) (G .peeked) p (R .locked) (R .next) (R .guard)
           (upd-other (G .fencer) y 0 p apart) refl refl (f .fenced)
+
+      own-manned : R .guard ≡ true → (s .edition ≢ 0) × (upd (G .fencer) y 0 p ≢ 0)
+      own-manned = manned-same (upd-other (G .fencer) y 0 p apart) (f .manned)
+
+      -- p fences nobody any more
+      idle : (x : ℕ) → upd (G .fencer) y 0 x ≢ suc p
+      idle =
+          by-same (λ x. upd (G .fencer) y 0 x ≢ suc p) y (λ k. let z : 0 ≡ suc p = sym (upd-same (G .fencer) y 0) ∙ k in omega arith)
+          (λ x d k. d (on .2 x (sym (upd-other (G .fencer) y 0 x d) ∙ k)))

@@ -1,0 +1,108 @@
+-- Line 1 and what follows it in the buffer.
+--     leaves-fills     a line that fits is what the buffer then begins with
+--     open-refused     the refusal alone is the log of a refused line 1
+--     later-room       after line 1 there is room for the later lines
+--     begin-follows    line 1 as read, and the later lines behind it, are `begun`
+--     begin-refuses    the refusal alone is `begun`
+-- Assumes nothing.
+use Prim.Native.Nat.{ℕ, _+_, _-_, _*_, _/_, _≤_}
+use native.Mathlib.Omega.{arith}
+use mathlib.Core.Path.{_≡_, refl, sym, ap, _∙_}
+use mathlib.Core.Bool.{true, false}
+use mathlib.Core.List.{List, [], _∷_, _++_, append-assoc}
+use lib.ListN.{length, take, drop, length-append, length-drop, length-take}
+use lib.Seq.{drop-drop, take-at, drop-at}
+use lib.Dec.{eqb}
+use borrow.Author.Tests.{le-leb}
+use borrow.Rule.Slice.PartMut.{midOf, putMid}
+use Rattle.lock.specs.declared.Answer.{Answer}
+use Rattle.frame.specs.Reading.{refusedBy, reads, restOf}
+use Rattle.frame.specs.Writing.{lineOf, leaves}
+use Rattle.frame.proofs.Proved.{lengths-are-known}
+use Rattle.bench.specs.Log.{refusedAt, logFrom, begun, opened}
+use Rattle.bench.specs.Turned.{filled}
+use Rattle.bench.proofs.Sizes.{refusal-size}
+use Rattle.bench.proofs.Told.{open-refuses}
+use Rattle.bench.proofs.Fuel.{fuel-same}
+use Rattle.bench.proofs.Room.{linesRoom}
+use Rattle.bench.proofs.Parts.{part-is, put-whole}
+
+pub leaves-fills : (line buffer : List ℕ) → length line ≤ length buffer → leaves line buffer ≡ filled line buffer
+unfolding leaves
+leaves-fills line buffer h = simp (le-leb (length line) (length buffer) h)
+
+pub open-refused : (text out : List ℕ) (n : ℕ) → linesRoom text ≤ length out → reads text true ≡ refusedBy n →
+    (last : List ℕ) → last ≡ leaves (refusedAt n 1) out →
+    (11 ≡ length (opened text (reads text true))) × (last ≡ filled (opened text (reads text true)) out)
+open-refused text out n room e last f =
+    rw (open-refuses text n e)
+    (sym (refusal-size n 1), f ∙ leaves-fills (refusedAt n 1) out (omega (arith, refusal-size n 1)))
+
+module _ (text out : List ℕ) (a : Answer) (room : linesRoom text ≤ length out) where
+  pub begin-refuses : eqb (a .refusal) 0 ≡ false → (last : List ℕ) → last ≡ leaves (refusedAt (a .refusal) 1) out →
+      (11 ≡ length (begun text a)) × (last ≡ filled (begun text a) out)
+  unfolding begun
+  begin-refuses no-state last e =
+      simp no-state
+      (
+        sym (refusal-size (a .refusal) 1),
+        e ∙ leaves-fills (refusedAt (a .refusal) 1) out (omega (arith, refusal-size (a .refusal) 1)),
+      )
+
+  module _ (kind edition n : ℕ) (as-read : take 9 text ≡ lineOf (kind ∷ edition ∷ n ∷ [])) (front : List ℕ)
+      (e : front ≡ leaves (lineOf (kind ∷ edition ∷ n ∷ [])) out) where
+    nine : length (lineOf (kind ∷ edition ∷ n ∷ [])) ≡ 9
+    nine = lengths-are-known .any (kind ∷ edition ∷ n ∷ [])
+
+    whole : 9 ≤ length text
+    whole = omega (arith, length-take 9 text, ap length as-read, nine)
+
+    front-is : front ≡ lineOf (kind ∷ edition ∷ n ∷ []) ++ drop 9 out
+    front-is =
+        let line = lineOf (kind ∷ edition ∷ n ∷ []) in
+        e ∙ leaves-fills line out (omega (arith, nine, whole)) ∙ ap (λ (k : ℕ). line ++ drop k out) nine
+
+    behind : midOf 9 (length front - 9) front ≡ drop 9 out
+    behind =
+        part-is 9 front
+        ∙ ap (drop 9) front-is
+        ∙ drop-at (lineOf (kind ∷ edition ∷ n ∷ [])) (drop 9 out) 9 nine
+
+    pub front-long : length front ≡ length out
+    front-long =
+        ap length front-is
+        ∙ length-append (lineOf (kind ∷ edition ∷ n ∷ [])) (drop 9 out)
+        ∙ omega (arith, nine, whole, length-drop 9 out)
+
+    pub later-room : (later : List ℕ) → later ≡ restOf text → linesRoom later ≤ length (midOf 9 (length front - 9) front)
+    later-room later f = rw (f, behind) (omega (arith, length-drop 9 text, length-drop 9 out, whole))
+
+    module _ (state : eqb (a .refusal) 0 ≡ true) (later : List ℕ) (f : later ≡ restOf text) (size : ℕ)
+        (g : size ≡ length (logFrom (length later) (a .state) 0 later)) (last : List ℕ)
+        (h : last ≡ filled (logFrom (length later) (a .state) 0 later) (midOf 9 (length front - 9) front)) where
+      begun-is : begun text a ≡ lineOf (kind ∷ edition ∷ n ∷ []) ++ logFrom (length later) (a .state) 0 later
+      unfolding begun
+      begun-is =
+          simp (state, as-read)
+          (ap (λ (l : List ℕ). lineOf (kind ∷ edition ∷ n ∷ []) ++ l)
+          (fuel-same (length text) (length (restOf text)) (a .state) 0 (restOf text) (omega (arith, length-drop 9 text)) (omega arith)
+          ∙ ap (λ (l : List ℕ). logFrom (length l) (a .state) 0 l) (sym f)))
+
+      begun-long : 9 + size ≡ length (begun text a)
+      begun-long =
+          omega (arith, g, nine, ap length begun-is,
+            length-append (lineOf (kind ∷ edition ∷ n ∷ [])) (logFrom (length later) (a .state) 0 later))
+
+      pub begin-follows : (9 + size ≡ length (begun text a)) × (putMid 9 (length front - 9) front last ≡ filled (begun text a) out)
+      begin-follows =
+          let line = lineOf (kind ∷ edition ∷ n ∷ []) in
+          let log = logFrom (length later) (a .state) 0 later in (
+            begun-long,
+            put-whole 9 front last
+            ∙ ap (λ (l : List ℕ). l ++ last) (ap (take 9) front-is ∙ take-at line (drop 9 out) 9 nine)
+            ∙ ap (λ (l : List ℕ). line ++ l) (h ∙ ap (λ (l : List ℕ). log ++ drop (length log) l) behind)
+            ∙ ap (λ (l : List ℕ). line ++ (log ++ l)) (drop-drop (length log) 9 out)
+            ∙ sym (append-assoc line log (drop (9 + length log) out))
+            ∙ ap (λ (l : List ℕ). l ++ drop (9 + length log) out) (sym begun-is)
+            ∙ ap (λ (k : ℕ). begun text a ++ drop k out) (ap (λ (k : ℕ). 9 + k) (sym g) ∙ begun-long),
+          )

@@ -1,0 +1,9 @@
+-- Laws that belong to no one function: from how long a line is up to the log as a run, and the examples computed.
+pub mod Sizes
+pub mod Fuel
+pub mod Room
+pub mod Told
+pub mod Parts
+pub mod Carried
+pub mod FirstLine
+pub mod Whole

@@ -1,0 +1,71 @@
+-- `bench::opening::begin` meets its contract: line 1 as read with the later lines behind it, or its refusal alone.
+-- Assumes nothing.
+use native.Mathlib.Omega.{arith}
+use mathlib.Core.Path.{ap}
+use denote.Ref.{now}
+use lib.ListN.{length, length-drop}
+use borrow.Author.Needs.{needs}
+use Rattle.bench.proofs.Room.{later-fits}
+use Rattle.bench.proofs.FirstLine.{later-room, begin-follows, begin-refuses}
+use Rattle.bench.proofs.opening.begin.Statement.{statement}
+use Rattle.bench.proofs.opening.begin.Tie as tie
+
+abbrev start-of : tie.After-write-frame → tie.Start
+start-of w = w .before .before .before .before .before .before .before
+
+follow-requires : tie.Need-follow-requires
+follow-requires c κs =
+    let w = c .before .before .before .before in
+    let s = start-of w in
+    later-room (now (s .args .schedule)) (now (s .args .out)) (w .before .before .before .before .fresh .result) (s .pre .0)
+    (s .args .kind) (s .args .edition) (s .args .n) (s .pre .1) (w .write-frame .last .0) (w .write-frame .ensures .1)
+    (c .before .rest .result .now) (c .before .rest .ensures)
+
+add-result : tie.Need-add-result
+add-result c =
+    let r = c .before .before .before .before in
+    let w = r .before .before .before in
+    let s = start-of w in
+    omega (arith, c .before .before .follow .ensures .0,
+      later-fits (length (r .rest .result .now)) (w .before .before .before .before .fresh .result .state) 0 (r .rest .result .now),
+      ap length (r .rest .ensures), length-drop 9 (now (s .args .schedule)), s .pre .0, s .good)
+
+returns : tie.Need-returns
+returns c =
+    let f = c .before .before in
+    let r = f .before .before in
+    let w = r .before .before .before in
+    let s = start-of w in
+    let a = w .before .before .before .before .fresh in
+    simp (← a .ensures)
+    (begin-follows (now (s .args .schedule)) (now (s .args .out)) (a .result) (s .pre .0)
+    (s .args .kind) (s .args .edition) (s .args .n) (s .pre .1) (w .write-frame .last .0) (w .write-frame .ensures .1)
+    (w .before .before .before .if1 .taken) (r .rest .result .now) (r .rest .ensures)
+    (f .follow .result) (f .follow .ensures .0) (f .follow .last .0) (f .follow .ensures .1))
+
+returns-2 : tie.Need-returns-2
+returns-2 c =
+    let w = c .before .before in
+    let a = w .before .before .before in
+    let s = a .before .before .before in
+    simp (← a .fresh .ensures)
+    (begin-refuses (now (s .args .schedule)) (now (s .args .out)) (a .fresh .result) (s .pre .0)
+    (w .before .before .if1 .left) (w .write-refused-at .last .0) (w .write-refused-at .ensures))
+
+pub begin-spec : {M : Type 1} → statement M
+begin-spec =
+    tie.close
+    (tie.spec
+    (λ c κs. search needs)
+    (λ c κs. search needs)
+    (λ c κs. search needs)
+    (λ c. search needs)
+    (λ c. search needs)
+    (λ c. search needs)
+    follow-requires
+    add-result
+    (λ c. search needs)
+    returns
+    (λ c κs. search needs)
+    (λ c. search needs)
+    returns-2)

@@ -1,0 +1,59 @@
+-- `bench::opening::open` meets its contract: by what the reader answers, the log begins or line 1 is refused. An accepted line is,
+-- byte for byte, what is written of its numbers.
+-- Assumes nothing.
+use mathlib.Core.Path.{sym, ap, _∙_}
+use mathlib.Core.Bool.{true}
+use denote.Ref.{now}
+use lib.ListN.{length}
+use borrow.Author.Needs.{needs}
+use Rattle.frame.specs.Reading.{told}
+use Rattle.frame.proofs.Proved.{accepted-is-written}
+use Rattle.bench.specs.Turned.{filled}
+use Rattle.bench.proofs.Told.{open-begins}
+use Rattle.bench.proofs.FirstLine.{open-refused}
+use Rattle.bench.proofs.opening.open.Statement.{statement}
+use Rattle.bench.proofs.opening.open.Tie as tie
+
+begin-requires : tie.Need-begin-requires
+begin-requires c κs =
+    let from = c .before .before in
+    let start = from .before .before .before .before .before in
+    (
+      start .pre,
+      accepted-is-written (now (start .args .schedule)) true _ _ _ _
+      (sym (from .before .before .read .ensures) ∙ ap told (from .kind .given .1)),
+    )
+
+returns : tie.Need-returns
+returns c =
+    let from = c .before .before .before .before .before in
+    let start = from .before .before .before .before .before in
+    let is =
+      open-begins (now (start .args .schedule)) _ _ _ _
+      (sym (from .before .before .read .ensures) ∙ ap told (from .kind .given .1)) in
+    (
+      c .before .before .begin .ensures .0 ∙ ap length (sym is),
+      c .before .before .begin .ensures .1 ∙ ap (λ l. filled l (now (start .args .out))) (sym is),
+    )
+
+returns-2 : tie.Need-returns-2
+returns-2 c =
+    let from = c .before .before .before .before .before in
+    let start = from .before .before .before .before .before in
+    open-refused (now (start .args .schedule)) (now (start .args .out)) _ (start .pre)
+    (sym (from .before .before .read .ensures) ∙ ap told (from .refusal .given .1))
+    (c .before .before .write-refused-at .last .0) (c .before .before .write-refused-at .ensures)
+
+pub open-spec : {M : Type 1} → statement M
+open-spec =
+    tie.close
+    (tie.spec
+    (λ c κs. search needs)
+    (λ c. search needs)
+    begin-requires
+    (λ c. search needs)
+    (λ c κs. search needs)
+    (λ c. search needs)
+    returns
+    (λ c. search needs)
+    returns-2)

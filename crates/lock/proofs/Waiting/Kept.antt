@@ -1,0 +1,139 @@
+-- What writes leave. An act of processor p is a chain of writes, and at most one of them, the last, is of p's place.
+-- Kept says what any chain of other writes leaves: every place, and that a row which is not p's and is Released stays
+-- so. Goes adds the last write: where p then is. In order: a write of one row; Kept and the writes that keep; Goes
+-- and its two ends.
+use Prim.Native.Nat.{ℕ, zero, suc, _<_}
+use mathlib.Core.Path.{_≡_, refl, sym, ap, _∙_, subst}
+use mathlib.Core.Bool.{Bool, true, false}
+use mathlib.Core.List.{List, [], _∷_}
+use mathlib.Core.Logic.{_≢_}
+use lib.ListN.{length, getD, set}
+use Rattle.lock.specs.declared.Row.{Row}
+use Rattle.lock.specs.declared.LockState.{LockState}
+use Rattle.lock.specs.Choice.{pick}
+use Rattle.lock.specs.State.{freshRow, row, putRow, putTail, putNext, putLocked, putGuard, putFlag, to, putPred, putSucc, putNx, withNext, withLocked, withGuard, withFlag, withPlace, withPred, withSucc, withNx, Released}
+use Rattle.lock.specs.Table.{Place, placeAt}
+use Rattle.lock.proofs.Rows.{rows-put, row-put-same, row-put-other}
+
+-- after a store an element is the one it was, or the new one at the store's own index
+set-either :
+    (P : Row → Type 0) (l : List Row) (i j : ℕ) (r d : Row) → P (getD l j d) → (j ≡ i → P r) → P (getD (set l i r) j d)
+set-either P [] i j r d old new = old
+set-either P (x ∷ l) zero zero r d old new = new refl
+set-either P (x ∷ l) zero (suc j) r d old new = old
+set-either P (x ∷ l) (suc i) zero r d old new = old
+set-either P (x ∷ l) (suc i) (suc j) r d old new = set-either P l i j r d old (λ e. new (ap suc e))
+
+pub row-put-either :
+    (P : Row → Type 0) (s : LockState) (i : ℕ) (r : Row) (j : ℕ) → P (row s j) → (j ≡ i → P r)
+    → P (row (putRow s i r) j)
+unfolding row putRow
+row-put-either P s i r j old new = set-either P (s .rows) i j r freshRow old new
+
+-- x keeps what s has: every place, every Released of a row other than p's, the number of rows, N
+pub record Kept (s : LockState) (p : ℕ) (x : LockState) : Type 0 where
+  pub places : (q : ℕ) → (row x q) .place ≡ (row s q) .place
+  pub released : (q : ℕ) → q ≢ p → (row s q) .locked ≡ Released → (row x q) .locked ≡ Released
+  pub rows : length (x .rows) ≡ length (s .rows)
+  pub size : x .n ≡ s .n
+
+pub kept-self : {s : LockState} {p : ℕ} → Kept s p s
+kept-self = record { places = λ q. refl; released = λ q other h. h; rows = refl; size = refl }
+
+pub kept-row : {s x : LockState} {p : ℕ} (i : ℕ) (r : Row) → Kept s p x → r .place ≡ (row x i) .place
+    → (i ≢ p → (row x i) .locked ≡ Released → r .locked ≡ Released) → Kept s p (putRow x i r)
+unfolding putRow
+kept-row {s} {x} {p} i r k place locked =
+    record {
+      places = λ q. row-put-either (λ w. w .place ≡ (row s q) .place) x i r q (k .places q)
+          (λ e. place ∙ ap (λ j. (row x j) .place) (sym e) ∙ k .places q);
+      released = λ q other h. row-put-either (λ w. w .locked ≡ Released) x i r q (k .released q other h)
+          (λ e. locked (λ f. other (e ∙ f)) (ap (λ j. (row x j) .locked) (sym e) ∙ k .released q other h));
+      rows = rows-put x i r ∙ k .rows;
+      size = k .size;
+    }
+
+pub kept-tail : {s x : LockState} {p : ℕ} (v : ℕ) → Kept s p x → Kept s p (putTail x v)
+unfolding putTail row
+kept-tail v k = record { places = k .places; released = k .released; rows = k .rows; size = k .size }
+
+pub kept-next : {s x : LockState} {p : ℕ} (i v : ℕ) → Kept s p x → Kept s p (putNext x i v)
+unfolding putNext
+kept-next {x} i v k = kept-row i (withNext (row x i) v) k refl (λ other h. h)
+
+pub kept-guard : {s x : LockState} {p : ℕ} (i : ℕ) (v : Bool) → Kept s p x → Kept s p (putGuard x i v)
+unfolding putGuard
+kept-guard {x} i v k = kept-row i (withGuard (row x i) v) k refl (λ other h. h)
+
+pub kept-flag : {s x : LockState} {p : ℕ} (i : ℕ) (v : Bool) → Kept s p x → Kept s p (putFlag x i v)
+unfolding putFlag
+kept-flag {x} i v k = kept-row i (withFlag (row x i) v) k refl (λ other h. h)
+
+pub kept-pred : {s x : LockState} {p : ℕ} (i v : ℕ) → Kept s p x → Kept s p (putPred x i v)
+unfolding putPred
+kept-pred {x} i v k = kept-row i (withPred (row x i) v) k refl (λ other h. h)
+
+pub kept-succ : {s x : LockState} {p : ℕ} (i v : ℕ) → Kept s p x → Kept s p (putSucc x i v)
+unfolding putSucc
+kept-succ {x} i v k = kept-row i (withSucc (row x i) v) k refl (λ other h. h)
+
+pub kept-nx : {s x : LockState} {p : ℕ} (i v : ℕ) → Kept s p x → Kept s p (putNx x i v)
+unfolding putNx
+kept-nx {x} i v k = kept-row i (withNx (row x i) v) k refl (λ other h. h)
+
+-- a locked is made Released, or is p's own, or was not Released before
+pub kept-release : {s x : LockState} {p : ℕ} (i : ℕ) → Kept s p x → Kept s p (putLocked x i Released)
+unfolding putLocked
+kept-release {x} i k = kept-row i (withLocked (row x i) Released) k refl (λ other h. refl)
+
+pub kept-own : {s x : LockState} {p : ℕ} (v : ℕ) → Kept s p x → Kept s p (putLocked x p v)
+unfolding putLocked
+kept-own {x} {p} v k = kept-row p (withLocked (row x p) v) k refl (λ other h. absurd (other refl))
+
+pub kept-locked :
+    {s x : LockState} {p : ℕ} (i v : ℕ) → (row x i) .locked ≢ Released → Kept s p x → Kept s p (putLocked x i v)
+unfolding putLocked
+kept-locked {x} i v held k = kept-row i (withLocked (row x i) v) k refl (λ other h. absurd (held h))
+
+-- x is what a step of p makes of s: p's place has become one that passes the test ok, the other rows' places are as
+-- they were
+pub record Goes (s : LockState) (p : ℕ) (ok : Place → Bool) (x : LockState) : Type 0 where
+  pub own : ok (placeAt ((row x p) .place)) ≡ true
+  pub others : (q : ℕ) → q ≢ p → (row x q) .place ≡ (row s q) .place
+  pub released : (q : ℕ) → q ≢ p → (row s q) .locked ≡ Released → (row x q) .locked ≡ Released
+  pub rows : length (x .rows) ≡ length (s .rows)
+  pub size : x .n ≡ s .n
+
+pub goes-to :
+    {s x : LockState} {p : ℕ} {ok : Place → Bool} (v : ℕ) → Kept s p x → p < length (s .rows) → ok (placeAt v) ≡ true
+    → Goes s p ok (to x p v)
+unfolding to putRow
+goes-to {s} {x} {p} {ok} v k h good =
+    let r : Row = withPlace (row x p) v in
+    record {
+      own = ap (λ w. ok (placeAt (w .place))) (row-put-same x p r (subst (λ m. p < m) (sym (k .rows)) h)) ∙ good;
+      others = λ q other. ap (λ w. w .place) (row-put-other x p r q other) ∙ k .places q;
+      released = λ q other z. ap (λ w. w .locked) (row-put-other x p r q other) ∙ k .released q other z;
+      rows = rows-put x p r ∙ k .rows;
+      size = k .size;
+    }
+
+pub stays :
+    {s x : LockState} {p : ℕ} {ok : Place → Bool} → Kept s p x → ok (placeAt ((row s p) .place)) ≡ true → Goes s p ok x
+stays {p} {ok} k good =
+    record {
+      own = ap (λ v. ok (placeAt v)) (k .places p) ∙ good;
+      others = λ q other. k .places q;
+      released = k .released;
+      rows = k .rows;
+      size = k .size;
+    }
+
+-- a choice has what both its values have; with the test's outcome where a value needs it
+pub pick-of : {A : Type 0} (P : A → Type 0) (b : Bool) {x y : A} → P x → P y → P (pick b x y)
+pick-of P true h k = h
+pick-of P false h k = k
+
+pub pick-by : {A : Type 0} (P : A → Type 0) (b : Bool) {x y : A} → (b ≡ true → P x) → (b ≡ false → P y) → P (pick b x y)
+pick-by P true h k = h refl
+pick-by P false h k = k refl

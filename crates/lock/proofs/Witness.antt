@@ -1,0 +1,208 @@
+-- Demand 3's claims on schedules that are worked out step by step: each fact here is computed from the schedule. Those that
+-- schedules/ names are the same as there, without the first line. In order:
+--     bound-met, bound-met-plain     the premises can be met, and the bound is sharp
+--     passed                         with one interrupt the order fails
+--     twice, past-the-bound          and so do at most once and the bound
+--     drawn                          what the guard buys: the drawn edition has no order, even without interrupts
+--     back                           the order with interrupts is not empty
+use Prim.Native.Nat.{ℕ, suc, _-_, _≤_, _<_}
+use native.Mathlib.Omega.{arith}
+use mathlib.Core.Path.{_≡_, refl}
+use mathlib.Core.Bool.{Bool, true}
+use mathlib.Core.Logic.{_≢_}
+use mathlib.Core.List.{List, [], _∷_, _++_}
+use lib.ListN.{length, replicate}
+use lib.Dec.{lit≤}
+use borrow.Author.Tests.{eqb-false}
+use Rattle.lock.specs.Choice.{every}
+use Rattle.lock.specs.State.{freshState, row, putRow, putTail, putNext, putLocked, putGuard, putFlag, to, putPred, putSucc, putNx}
+use Rattle.lock.specs.Sound.{hasPlace, cellsSound, placeSound, asFresh, soundRow, sound}
+use Rattle.lock.specs.Acts as Acts
+use Rattle.lock.specs.Table.{stepped}
+use Rattle.lock.specs.Event.{raised, happens}
+use Rattle.lock.specs.Run.{Call, after, run, stepsOf, joins, enters, interrupted}
+use Rattle.lock.specs.Count.{countIn, joinsIn, entriesIn, interruptsIn, allEntriesIn, latestJoin, untilEntry, between}
+use Rattle.lock.specs.Claims.{reached, waited, Ordered, Waits, LastJoin}
+use Rattle.lock.proofs.Claimed.{nobody-later-enters, others-enter-once, waits-at-most}
+
+-- what it takes to compute a schedule: to unfold this is to unfold all that its line names
+computed : Bool
+unfolding every freshState row putRow putTail putNext putLocked putGuard putFlag to putPred putSucc putNx hasPlace
+    cellsSound placeSound asFresh soundRow sound Acts.toQueue Acts.toHand Acts.onward Acts.toLift Acts.rest Acts.gate
+    Acts.clear Acts.swap Acts.arm Acts.link Acts.claim Acts.spin Acts.settle Acts.inside Acts.poll Acts.service
+    Acts.back Acts.regain Acts.look Acts.close Acts.await Acts.hand Acts.fence Acts.park Acts.peek Acts.take Acts.lift
+    stepped raised happens after run stepsOf joins enters interrupted countIn joinsIn entriesIn interruptsIn
+    allEntriesIn latestJoin untilEntry between
+computed = true
+
+abbrev step : ℕ → Call
+step p = record { event = 1; processor = p }
+
+-- k steps of p
+abbrev steps : ℕ → ℕ → List Call
+steps p k = replicate k (step p)
+
+abbrev raise : ℕ → List Call
+raise p = record { event = 2; processor = p } ∷ []
+
+-- ---- bound_met: "N 2, 0 hands to 1, 0 joins again, then 1 enters, hands to 0, and 0 enters: 0's second join waited through
+-- one entry", which is N - 1
+
+abbrev metBefore : List Call
+metBefore = steps 0 4 ++ steps 1 7 ++ steps 0 6
+
+abbrev metLater : List Call
+metLater = steps 0 3 ++ steps 1 4 ++ steps 0 4
+
+bound-met-waits : Waits 2 2 metBefore (step 0) metLater 0
+unfolding computed
+bound-met-waits =
+    record { ordered = record { edition = refl; least = lit≤ tt; most = lit≤ tt }; joined = refl; uninterrupted = refl }
+
+bound-met-enters :
+    enters (reached 2 2 (metBefore ++ step 0 ∷ waited 2 2 metBefore (step 0) metLater 0)) (step 0) 0 ≡ true
+unfolding computed
+bound-met-enters = refl
+
+bound-met : allEntriesIn (reached 2 2 (metBefore ++ step 0 ∷ [])) (waited 2 2 metBefore (step 0) metLater 0) ≡ 2 - 1
+unfolding computed
+bound-met = refl
+
+-- bound_met_plain: the same in the plain edition, which has no gate, claim and poll
+
+abbrev plainBefore : List Call
+plainBefore = steps 0 3 ++ steps 1 5 ++ steps 0 5
+
+abbrev plainLater : List Call
+plainLater = steps 0 2 ++ steps 1 4 ++ steps 0 4
+
+bound-met-plain-waits : Waits 0 2 plainBefore (step 0) plainLater 0
+unfolding computed
+bound-met-plain-waits =
+    record { ordered = record { edition = refl; least = lit≤ tt; most = lit≤ tt }; joined = refl; uninterrupted = refl }
+
+bound-met-plain-enters :
+    enters (reached 0 2 (plainBefore ++ step 0 ∷ waited 0 2 plainBefore (step 0) plainLater 0)) (step 0) 0 ≡ true
+unfolding computed
+bound-met-plain-enters = refl
+
+bound-met-plain :
+    allEntriesIn (reached 0 2 (plainBefore ++ step 0 ∷ [])) (waited 0 2 plainBefore (step 0) plainLater 0) ≡ 2 - 1
+unfolding computed
+bound-met-plain = refl
+
+-- ---- The claims with another premise on how many interrupts p takes, so that they can be seen to fail. With "none" they are
+-- what is claimed.
+
+abbrev Order : ℕ → ℕ → (ℕ → Type 0) → Type 0
+Order e n calm =
+    (before : List Call) (join : Call) (later : List Call) (p : ℕ)
+    → joins (reached e n before) join p ≡ true
+    → calm (interruptsIn (reached e n (before ++ join ∷ [])) (waited e n before join later p) p)
+    → (seen : List Call) (entry : Call) (unseen : List Call) (q : ℕ)
+    → waited e n before join later p ≡ seen ++ entry ∷ unseen
+    → enters (reached e n (before ++ join ∷ seen)) entry q ≡ true
+    → latestJoin (freshState e n) (before ++ join ∷ seen ++ entry ∷ []) q < suc (length before)
+
+abbrev Once : ℕ → ℕ → (ℕ → Type 0) → Type 0
+Once e n calm =
+    (before : List Call) (join : Call) (later : List Call) (p : ℕ)
+    → joins (reached e n before) join p ≡ true
+    → calm (interruptsIn (reached e n (before ++ join ∷ [])) (waited e n before join later p) p)
+    → (q : ℕ)
+    → q ≢ p
+    → entriesIn (reached e n (before ++ join ∷ [])) (waited e n before join later p) q ≤ 1
+
+abbrev Bound : ℕ → ℕ → (ℕ → Type 0) → Type 0
+Bound e n calm =
+    (before : List Call) (join : Call) (later : List Call) (p : ℕ)
+    → joins (reached e n before) join p ≡ true
+    → calm (interruptsIn (reached e n (before ++ join ∷ [])) (waited e n before join later p) p)
+    → allEntriesIn (reached e n (before ++ join ∷ [])) (waited e n before join later p) ≤ n - 1
+
+order-claimed : (e n : ℕ) → Ordered e n → Order e n (λ k. k ≡ 0)
+order-claimed e n o before join later p j i =
+    nobody-later-enters e n before join later p (record { ordered = o; joined = j; uninterrupted = i })
+
+once-claimed : (e n : ℕ) → Ordered e n → Once e n (λ k. k ≡ 0)
+once-claimed e n o before join later p j i =
+    others-enter-once e n before join later p (record { ordered = o; joined = j; uninterrupted = i })
+
+bound-claimed : (e n : ℕ) → Ordered e n → Bound e n (λ k. k ≡ 0)
+bound-claimed e n o before join later p j i =
+    waits-at-most e n before join later p (record { ordered = o; joined = j; uninterrupted = i })
+
+-- interrupt_passed: guarded, N 3. 1 joins (call 8) and takes an interrupt; 2 joins behind it (call 18) and enters while 1 is
+-- away. So one interrupt is too much for the order.
+passed : Order 2 3 (λ k. k ≤ 1) → ⊥
+unfolding computed
+passed order =
+    let later : 18 < 8 =
+    order (steps 0 4 ++ steps 1 3) (step 1)
+    (steps 1 4 ++ raise 1 ++ steps 1 1 ++ steps 2 7 ++ steps 0 9 ++ steps 2 1 ++ steps 1 9 ++ steps 2 3 ++ steps 1 4) 1 refl (lit≤ tt)
+    (steps 1 4 ++ raise 1 ++ steps 1 1 ++ steps 2 7 ++ steps 0 9) (step 2) (steps 1 9 ++ steps 2 3) 2 refl refl in
+    omega arith
+
+-- Guarded, N 2: 1 joins (call 8) and takes an interrupt. 0 parks the lock on it, joins again, claims the lock and enters,
+-- leaves, joins and enters once more. Then 1 joins again and enters. Two entries, both of 0, where N - 1 is 1.
+
+abbrev twiceBefore : List Call
+twiceBefore = steps 0 4 ++ steps 1 3
+
+abbrev twiceLater : List Call
+twiceLater = steps 1 4 ++ raise 1 ++ steps 1 1 ++ steps 0 25 ++ steps 1 6
+
+twice : Once 2 2 (λ k. k ≤ 1) → ⊥
+unfolding computed
+twice once =
+    let two : 2 ≤ 1 = once twiceBefore (step 1) twiceLater 1 refl (lit≤ tt) 0 (eqb-false 0 1 refl) in
+    omega arith
+
+past-the-bound : Bound 2 2 (λ k. k ≤ 1) → ⊥
+unfolding computed
+past-the-bound bound =
+    let two : 2 ≤ 1 = bound twiceBefore (step 1) twiceLater 1 refl (lit≤ tt) in
+    omega arith
+
+-- halo_drawn_three: drawn, N 3. 0 joins (call 60), takes no interrupt and enters at call 83; 2 joins behind it (call 66) and
+-- enters before it (call 75). So the drawn edition has no order, even for those that take no interrupt.
+
+abbrev drawnBefore : List Call
+drawnBefore =
+    steps 0 3 ++ steps 1 7 ++ raise 1 ++ steps 1 1 ++ steps 0 4 ++ steps 2 5 ++ steps 0 1 ++ steps 2 1 ++ steps 1 9 ++ raise 1
+    ++ steps 1 1 ++ steps 2 6 ++ steps 0 1 ++ steps 1 4 ++ steps 2 4 ++ steps 0 1 ++ steps 2 6 ++ steps 1 1 ++ steps 0 2
+
+abbrev drawnSeen : List Call
+drawnSeen = steps 0 1 ++ steps 1 2 ++ steps 2 4 ++ steps 1 3 ++ steps 0 2 ++ steps 2 2
+
+abbrev drawnUnseen : List Call
+drawnUnseen = steps 2 3 ++ steps 1 4
+
+drawn : Order 1 3 (λ k. k ≡ 0) → ⊥
+unfolding computed
+drawn order =
+    let later : 66 < 60 =
+    order drawnBefore (step 0) (drawnSeen ++ step 2 ∷ drawnUnseen ++ steps 0 1) 0 refl refl drawnSeen (step 2) drawnUnseen 2 refl refl in
+    omega arith
+
+-- ---- The order with interrupts is not empty. Guarded, N 3: 2 joins (call 15), takes an interrupt and comes back in time; 1,
+-- which joined before it (call 8), enters meanwhile.
+
+abbrev backBefore : List Call
+backBefore = steps 0 4 ++ steps 1 7 ++ steps 2 3
+
+abbrev backWait : List Call
+backWait = steps 2 4 ++ raise 2 ++ steps 2 3 ++ steps 0 3 ++ steps 1 4
+
+back-last-join : LastJoin 2 3 backBefore (step 2) backWait (step 2) 2
+unfolding computed
+back-last-join =
+    record { ordered = record { edition = refl; least = lit≤ tt; most = lit≤ tt }; joined = refl; entered = refl; last = refl }
+
+back-interrupted : interruptsIn (reached 2 3 (backBefore ++ step 2 ∷ [])) backWait 2 ≡ 1
+unfolding computed
+back-interrupted = refl
+
+back-waits-through : entriesIn (reached 2 3 (backBefore ++ step 2 ∷ [])) backWait 1 ≡ 1
+unfolding computed
+back-waits-through = refl

@@ -1,0 +1,38 @@
+// Demand 3, shown as proved under its clauses' names: each function here is empty, and its contract is the claim. What the claims
+// say stands in specs/Claims.
+ghost use Rattle.lock.specs.Claims.{NeverTwoInside, NeverTwoInsideAnyEdition, NobodyLaterEnters, OthersEnterOnce, WaitsAtMost, NobodyOvertakes, CallsAreARun};
+
+// "two processors are never inside together"
+pub fn never_two_inside()
+    ensures { λ _. ⌜ NeverTwoInside ⌝ }
+{}
+
+// the drawn edition keeps that too
+pub fn never_two_inside_any_edition()
+    ensures { λ _. ⌜ NeverTwoInsideAnyEdition ⌝ }
+{}
+
+// "Between its join and its entry no processor whose latest join is later enters"
+pub fn nobody_later_enters()
+    ensures { λ _. ⌜ NobodyLaterEnters ⌝ }
+{}
+
+// "and every other processor enters at most once"
+pub fn others_enter_once()
+    ensures { λ _. ⌜ OthersEnterOnce ⌝ }
+{}
+
+// "so of N processors it waits through at most N - 1 entries"
+pub fn waits_at_most()
+    ensures { λ _. ⌜ WaitsAtMost ⌝ }
+{}
+
+// the order with any interrupts, from the last join before an entry
+pub fn nobody_overtakes()
+    ensures { λ _. ⌜ NobodyOvertakes ⌝ }
+{}
+
+// any sequence of calls of `event` from `LockState::fresh` is a run
+pub fn calls_are_a_run()
+    ensures { λ _. ⌜ CallsAreARun ⌝ }
+{}
