@@ -62,7 +62,7 @@ module _ (text : List ℕ) (first : LockState) (buffer out rest : List ℕ) (s :
       × (putMid at (length out - at) out last ≡ filled (logFrom (length text) first 0 text) buffer)
   count-ends last none e =
       rw (count-size accepted) at (ends (counted accepted) last (log-ends (length rest) s accepted rest none)
-        (omega (arith, count-size accepted, i .room, i .long)) e)
+      (omega (arith, count-size accepted, i .room, i .long)) e)
 
   pub count-long : (last : List ℕ) → last ≡ leaves (counted accepted) (midOf at (length out - at) out) →
       length (putMid at (length out - at) out last) ≡ length buffer
@@ -111,18 +111,18 @@ module _ (text : List ℕ) (first : LockState) (buffer out rest : List ℕ) (s :
             rw (g, e)
             (⊎-elim
             (λ (z : GoesOn t × (9 ≤ length rest)).
-              record {
-                long = turn-long;
-                room = omega (arith, i .room, length-drop 9 rest);
-                kept = is-put .kept ∙ further at (length (t .written)) out buffer (i .kept);
-                log =
+            record {
+              long = turn-long;
+              room = omega (arith, i .room, length-drop 9 rest);
+              kept = is-put .kept ∙ further at (length (t .written)) out buffer (i .kept);
+              log =
                   ap (λ (l : List ℕ). l ++ logFrom (length (restOf rest)) (t .next) (accepted + 1) (restOf rest)) (is-put .front)
                   ∙ append-assoc (take at out) (t .written) (logFrom (length (restOf rest)) (t .next) (accepted + 1) (restOf rest))
                   ∙ ap (λ (l : List ℕ). take at out ++ l)
                   (ap (λ (k : ℕ). t .written ++ logFrom (length (restOf rest)) (t .next) k (restOf rest)) (add-one accepted)
                   ∙ sym (log-turns s accepted rest some ∙ simp on))
                   ∙ i .log;
-                fewer = omega (arith, i .fewer, length-drop 9 rest);
-              })
+              fewer = omega (arith, i .fewer, length-drop 9 rest);
+            })
             (λ (z : Stops t). absurd (true≢false (sym on ∙ z .0)))
             (turn-size s (accepted + 2) rest))

@@ -43,8 +43,7 @@ module _ (text out : List ℕ) (a : Answer) (room : linesRoom text ≤ length ou
       (11 ≡ length (begun text a)) × (last ≡ filled (begun text a) out)
   unfolding begun
   begin-refuses no-state last e =
-      simp no-state
-      (
+      simp no-state (
         sym (refusal-size (a .refusal) 1),
         e ∙ leaves-fills (refusedAt (a .refusal) 1) out (omega (arith, refusal-size (a .refusal) 1)),
       )
@@ -90,8 +89,13 @@ module _ (text out : List ℕ) (a : Answer) (room : linesRoom text ≤ length ou
 
       begun-long : 9 + size ≡ length (begun text a)
       begun-long =
-          omega (arith, g, nine, ap length begun-is,
-            length-append (lineOf (kind ∷ edition ∷ n ∷ [])) (logFrom (length later) (a .state) 0 later))
+          omega (
+            arith,
+            g,
+            nine,
+            ap length begun-is,
+            length-append (lineOf (kind ∷ edition ∷ n ∷ [])) (logFrom (length later) (a .state) 0 later),
+          )
 
       pub begin-follows : (9 + size ≡ length (begun text a)) × (putMid 9 (length front - 9) front last ≡ filled (begun text a) out)
       begin-follows =
@@ -99,10 +103,10 @@ module _ (text out : List ℕ) (a : Answer) (room : linesRoom text ≤ length ou
           let log = logFrom (length later) (a .state) 0 later in (
             begun-long,
             put-whole 9 front last
-            ∙ ap (λ (l : List ℕ). l ++ last) (ap (take 9) front-is ∙ take-at line (drop 9 out) 9 nine)
-            ∙ ap (λ (l : List ℕ). line ++ l) (h ∙ ap (λ (l : List ℕ). log ++ drop (length log) l) behind)
-            ∙ ap (λ (l : List ℕ). line ++ (log ++ l)) (drop-drop (length log) 9 out)
-            ∙ sym (append-assoc line log (drop (9 + length log) out))
-            ∙ ap (λ (l : List ℕ). l ++ drop (9 + length log) out) (sym begun-is)
-            ∙ ap (λ (k : ℕ). begun text a ++ drop k out) (ap (λ (k : ℕ). 9 + k) (sym g) ∙ begun-long),
+                ∙ ap (λ (l : List ℕ). l ++ last) (ap (take 9) front-is ∙ take-at line (drop 9 out) 9 nine)
+                ∙ ap (λ (l : List ℕ). line ++ l) (h ∙ ap (λ (l : List ℕ). log ++ drop (length log) l) behind)
+                ∙ ap (λ (l : List ℕ). line ++ (log ++ l)) (drop-drop (length log) 9 out)
+                ∙ sym (append-assoc line log (drop (9 + length log) out))
+                ∙ ap (λ (l : List ℕ). l ++ drop (9 + length log) out) (sym begun-is)
+                ∙ ap (λ (k : ℕ). begun text a ++ drop k out) (ap (λ (k : ℕ). 9 + k) (sym g) ∙ begun-long),
           )

@@ -58,15 +58,15 @@ module _ (at : ℕ) (out : List ℕ) where
     put =
         record {
           long =
-            ap length put-is
-            ∙ length-append (take at out ++ line) (drop (at + length line) out)
-            ∙ omega (arith, written-long, length-drop (at + length line) out);
+              ap length put-is
+              ∙ length-append (take at out ++ line) (drop (at + length line) out)
+              ∙ omega (arith, written-long, length-drop (at + length line) out);
           front =
-            ap (λ (l : List ℕ). take (at + length line) l) put-is
-            ∙ take-at (take at out ++ line) (drop (at + length line) out) (at + length line) written-long;
+              ap (λ (l : List ℕ). take (at + length line) l) put-is
+              ∙ take-at (take at out ++ line) (drop (at + length line) out) (at + length line) written-long;
           kept =
-            ap (λ (l : List ℕ). drop (at + length line) l) put-is
-            ∙ drop-at (take at out ++ line) (drop (at + length line) out) (at + length line) written-long;
+              ap (λ (l : List ℕ). drop (at + length line) l) put-is
+              ∙ drop-at (take at out ++ line) (drop (at + length line) out) (at + length line) written-long;
         }
 
 pub filled-by : (log buffer after : List ℕ) (n : ℕ) → n ≤ length after → take n after ≡ log → drop n after ≡ drop n buffer →
@@ -75,6 +75,6 @@ filled-by log buffer after n h front kept =
     let size : n ≡ length log = sym (length-take-le n after h) ∙ ap length front in (
       size,
       sym (take-append-drop n after)
-      ∙ ap (λ (l : List ℕ). l ++ drop n after) front
-      ∙ ap (λ (l : List ℕ). log ++ l) (kept ∙ ap (λ (k : ℕ). drop k buffer) size),
+          ∙ ap (λ (l : List ℕ). l ++ drop n after) front
+          ∙ ap (λ (l : List ℕ). log ++ l) (kept ∙ ap (λ (k : ℕ). drop k buffer) size),
     )

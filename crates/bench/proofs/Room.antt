@@ -33,7 +33,7 @@ later-fits (suc fuel) s accepted (b ∷ text) =
     let on = later-fits fuel (t .next) (suc accepted) (restOf (b ∷ text)) in
     ⊎-elim
     (λ (g : GoesOn t × (9 ≤ length (b ∷ text))).
-      simp (g .0 .0) (omega (arith, length-append (t .written) more, length-drop 9 (b ∷ text), on)))
+    simp (g .0 .0) (omega (arith, length-append (t .written) more, length-drop 9 (b ∷ text), on)))
     (λ (g : Stops t). simp (g .0) (omega (arith, length-append (t .written) [])))
     (turn-size s (accepted + 2) (b ∷ text))
 
@@ -43,9 +43,14 @@ begun-fits text a h =
     let more = logFrom (length text) (a .state) 0 (restOf text) in
     ⊎-elim
     (λ (e : eqb (a .refusal) 0 ≡ true).
-      simp e
-      (omega (arith, length-append (take 9 text) more, length-take 9 text, length-drop 9 text,
-        later-fits (length text) (a .state) 0 (restOf text))))
+    simp e
+    (omega (
+      arith,
+      length-append (take 9 text) more,
+      length-take 9 text,
+      length-drop 9 text,
+      later-fits (length text) (a .state) 0 (restOf text),
+    )))
     (λ (e : eqb (a .refusal) 0 ≡ false). simp e (omega (arith, refusal-size (a .refusal) 1)))
     (cases (eqb (a .refusal) 0))
 
@@ -56,9 +61,9 @@ log-fits text =
     ⊎-elim
     (λ (e : ltb longest (length text) ≡ true). simp e (omega (arith, refusal-size 1 0)))
     (λ (e : ltb longest (length text) ≡ false).
-      simp e
-      (⊎-elim
-      (λ (f : eqb (t .refusal) 0 ≡ true). simp f (begun-fits text (fresh (second t) (third t)) (whole-nine text true (eqb-true (t .refusal) 0 f))))
-      (λ (f : eqb (t .refusal) 0 ≡ false). simp f (omega (arith, refusal-size (t .refusal) 1)))
-      (cases (eqb (t .refusal) 0))))
+    simp e
+    (⊎-elim
+    (λ (f : eqb (t .refusal) 0 ≡ true). simp f (begun-fits text (fresh (second t) (third t)) (whole-nine text true (eqb-true (t .refusal) 0 f))))
+    (λ (f : eqb (t .refusal) 0 ≡ false). simp f (omega (arith, refusal-size (t .refusal) 1)))
+    (cases (eqb (t .refusal) 0))))
     (cases (ltb longest (length text)))

@@ -62,7 +62,7 @@ turn-size s line text =
     let a = answered s line (second t) (third t) (happens s (second t) (third t)) in
     ⊎-elim
     (λ (e : eqb (t .refusal) 0 ≡ true).
-      ⊎-elim (λ (g : GoesOn a). inl (simp e g, whole-nine text false (eqb-true (t .refusal) 0 e))) (λ (g : Stops a). inr (simp e g))
-      (answered-size s line (second t) (third t) (happens s (second t) (third t))))
+    ⊎-elim (λ (g : GoesOn a). inl (simp e g, whole-nine text false (eqb-true (t .refusal) 0 e))) (λ (g : Stops a). inr (simp e g))
+    (answered-size s line (second t) (third t) (happens s (second t) (third t))))
     (λ (e : eqb (t .refusal) 0 ≡ false). inr (simp e, simp e (refusal-size (t .refusal) line)))
     (cases (eqb (t .refusal) 0))

@@ -29,8 +29,8 @@ pub refused-not-zero : (text : List ℕ) (isFirst : Bool) (n : ℕ) → reads te
 refused-not-zero text isFirst n e =
     ne-eqb n 0
     (λ z.
-      let h = by-order 4 (kindOf isFirst) text .none .0 (ap (λ t. t .refusal) e ∙ z) in
-      four-are-some text (ap (λ t. t .numbers) (sym e ∙ is-accepted 4 (kindOf isFirst) text (h .0) (h .1) (h .2) (h .3))))
+    let h = by-order 4 (kindOf isFirst) text .none .0 (ap (λ t. t .refusal) e ∙ z) in
+    four-are-some text (ap (λ t. t .numbers) (sym e ∙ is-accepted 4 (kindOf isFirst) text (h .0) (h .1) (h .2) (h .3))))
 
 module _ (s : LockState) (line : ℕ) (text : List ℕ) where
   pub turn-answers : (kind event p check : ℕ) → reads text false ≡ framed kind event p check →

@@ -59,8 +59,7 @@ module _ (text : List ℕ) where
       pub is-logged : (log : List ℕ) → logOf text ≡ log → (size : ℕ) → size ≡ length log → (last : List ℕ) → last ≡ filled log out →
           (_≡_ {A = Logged} (record { refusal = 0; length = size }) (logged text out)) × ((last ≡ left text out) × (size ≤ length last))
       unfolding logged left
-      is-logged log is size f last g =
-          (
-            simp (← e, h, is, f),
-            (simp (← e, h, is) g, omega (arith, ap length g, length-append log (drop (length log) out))),
-          )
+      is-logged log is size f last g = (
+        simp (← e, h, is, f),
+        (simp (← e, h, is) g, omega (arith, ap length g, length-append log (drop (length log) out))),
+      )

@@ -90,8 +90,5 @@ pub fn bench(schedule: &[u8], out: &mut [u8]) -> Logged
         };
     }
     let length = open(out, schedule);
-    Logged {
-        refusal: 0,
-        length,
-    }
+    Logged { refusal: 0, length }
 }

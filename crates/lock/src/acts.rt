@@ -116,7 +116,7 @@ impl LockState {
         if parked {
             self.put_locked(own.pred, LockState::RELEASED).to(p, 8)
         } else {
-            self.to(p, 7)
+            self.to(p, 7) // a releaser will come
         }
     }
 

@@ -26,9 +26,15 @@ add-result c =
     let r = c .before .before .before .before in
     let w = r .before .before .before in
     let s = start-of w in
-    omega (arith, c .before .before .follow .ensures .0,
+    omega (
+      arith,
+      c .before .before .follow .ensures .0,
       later-fits (length (r .rest .result .now)) (w .before .before .before .before .fresh .result .state) 0 (r .rest .result .now),
-      ap length (r .rest .ensures), length-drop 9 (now (s .args .schedule)), s .pre .0, s .good)
+      ap length (r .rest .ensures),
+      length-drop 9 (now (s .args .schedule)),
+      s .pre .0,
+      s .good,
+    )
 
 returns : tie.Need-returns
 returns c =

@@ -35,8 +35,11 @@ returns-2 c =
     (refusedAt 1 0) (is-long (now (a .schedule)) (t .if2 .taken)) 11 (sym (refusal-size 1 0)) (w .write-refused-at .last .0)
     (w .write-refused-at .ensures
     ∙ leaves-fills (refusedAt 1 0) (now (a .out))
-    (omega (arith, refusal-size 1 0,
-      long-room (now (a .schedule)) (now (a .out)) (r .room-for .result) (r .room-for .ensures) (t .before .if1 .left))))
+    (omega (
+      arith,
+      refusal-size 1 0,
+      long-room (now (a .schedule)) (now (a .out)) (r .room-for .result) (r .room-for .ensures) (t .before .if1 .left),
+    )))
 
 open-requires : tie.Need-open-requires
 open-requires c κs =

@@ -17,11 +17,10 @@ use Rattle.bench.proofs.opening.open.Tie as tie
 begin-requires : tie.Need-begin-requires
 begin-requires c κs =
     let from = c .before .before in
-    let start = from .before .before .before .before .before in
-    (
+    let start = from .before .before .before .before .before in (
       start .pre,
       accepted-is-written (now (start .args .schedule)) true _ _ _ _
-      (sym (from .before .before .read .ensures) ∙ ap told (from .kind .given .1)),
+          (sym (from .before .before .read .ensures) ∙ ap told (from .kind .given .1)),
     )
 
 returns : tie.Need-returns
@@ -29,9 +28,8 @@ returns c =
     let from = c .before .before .before .before .before in
     let start = from .before .before .before .before .before in
     let is =
-      open-begins (now (start .args .schedule)) _ _ _ _
-      (sym (from .before .before .read .ensures) ∙ ap told (from .kind .given .1)) in
-    (
+    open-begins (now (start .args .schedule)) _ _ _ _
+    (sym (from .before .before .read .ensures) ∙ ap told (from .kind .given .1)) in (
       c .before .before .begin .ensures .0 ∙ ap length (sym is),
       c .before .before .begin .ensures .1 ∙ ap (λ l. filled l (now (start .args .out))) (sym is),
     )

@@ -15,9 +15,8 @@ returns c =
     let from = c .before .before .before .before .before in
     let start = from .before .before .before .before .before in
     let is =
-      turn-answers (start .args .state) (start .args .line) (now (start .args .text)) _ _ _ _
-      (sym (from .before .before .read .ensures) ∙ ap told (from .event .given .1)) in
-    (
+    turn-answers (start .args .state) (start .args .line) (now (start .args .text)) _ _ _ _
+    (sym (from .before .before .read .ensures) ∙ ap told (from .event .given .1)) in (
       c .before .before .answer .ensures .0 ∙ ap turned (sym is),
       c .before .before .answer .ensures .1 ∙ ap (λ t. leaves (t .written) (now (start .args .out))) (sym is),
     )
@@ -27,9 +26,8 @@ returns-2 c =
     let from = c .before .before .before .before .before in
     let start = from .before .before .before .before .before in
     let is =
-      turn-refuses (start .args .state) (start .args .line) (now (start .args .text)) _
-      (sym (from .before .before .read .ensures) ∙ ap told (from .refusal .given .1)) in
-    (
+    turn-refuses (start .args .state) (start .args .line) (now (start .args .text)) _
+    (sym (from .before .before .read .ensures) ∙ ap told (from .refusal .given .1)) in (
       c .before .before .refuse .ensures .0 ∙ ap turned (sym is),
       c .before .before .refuse .ensures .1 ∙ ap (λ t. leaves (t .written) (now (start .args .out))) (sym is),
     )
