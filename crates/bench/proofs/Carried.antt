@@ -21,10 +21,9 @@ use Rattle.frame.specs.Reading.{restOf}
 use Rattle.frame.specs.Writing.{leaves}
 use Rattle.bench.specs.declared.turns.Turned.{Turned}
 use Rattle.bench.specs.Log.{Turn, counted, turnOf, logFrom}
-use Rattle.bench.specs.Turned.{turned, filled}
+use Rattle.bench.specs.Steps.{turned, filled, laterLog, linesRoom}
 use Rattle.bench.proofs.Sizes.{count-size, GoesOn, Stops, turn-size}
 use Rattle.bench.proofs.Fuel.{thenMore, log-ends, log-turns}
-use Rattle.bench.proofs.Room.{linesRoom}
 use Rattle.bench.proofs.Parts.{Put, put, filled-by}
 
 -- Where the loop stands: `out` was `buffer`, `at` bytes of it are written, and the log of `text` from the state `first` on is
@@ -33,7 +32,7 @@ pub record Carried (text : List ℕ) (first : LockState) (buffer out rest : List
   pub long : length out ≡ length buffer
   pub room : at + linesRoom rest ≤ length buffer
   pub kept : drop at out ≡ drop at buffer
-  pub log : take at out ++ logFrom (length rest) s accepted rest ≡ logFrom (length text) first 0 text
+  pub log : take at out ++ logFrom (length rest) s accepted rest ≡ laterLog first text
   pub fewer : accepted + length rest ≤ length text
 
 pub begins : (text : List ℕ) (s : LockState) (buffer : List ℕ) → linesRoom text ≤ length buffer → Carried text s buffer buffer text s 0 0
@@ -48,18 +47,18 @@ module _ (text : List ℕ) (first : LockState) (buffer out rest : List ℕ) (s :
   -- the last line of the log is written
   ends : (line last : List ℕ) → logFrom (length rest) s accepted rest ≡ line → at + length line ≤ length out →
       last ≡ leaves line (midOf at (length out - at) out) →
-      (at + length line ≡ length (logFrom (length text) first 0 text))
-      × (putMid at (length out - at) out last ≡ filled (logFrom (length text) first 0 text) buffer)
+      (at + length line ≡ length (laterLog first text))
+      × (putMid at (length out - at) out last ≡ filled (laterLog first text) buffer)
   ends line last is room e =
       let p = put at out line last room e in
-      filled-by (logFrom (length text) first 0 text) buffer (putMid at (length out - at) out last) (at + length line)
+      filled-by (laterLog first text) buffer (putMid at (length out - at) out last) (at + length line)
       (omega arith)
       (p .front ∙ ap (λ (l : List ℕ). take at out ++ l) (sym is) ∙ i .log)
       (p .kept ∙ further at (length line) out buffer (i .kept))
 
   pub count-ends : (last : List ℕ) → length rest ≤ 0 → last ≡ leaves (counted accepted) (midOf at (length out - at) out) →
-      (at + 9 ≡ length (logFrom (length text) first 0 text))
-      × (putMid at (length out - at) out last ≡ filled (logFrom (length text) first 0 text) buffer)
+      (at + 9 ≡ length (laterLog first text))
+      × (putMid at (length out - at) out last ≡ filled (laterLog first text) buffer)
   count-ends last none e =
       rw (count-size accepted) at (ends (counted accepted) last (log-ends (length rest) s accepted rest none)
       (omega (arith, count-size accepted, i .room, i .long)) e)
@@ -95,8 +94,8 @@ module _ (text : List ℕ) (first : LockState) (buffer out rest : List ℕ) (s :
         turn-long = is-put .long ∙ i .long
 
         pub turn-stops : r .more ≡ false →
-            (at + r .length ≡ length (logFrom (length text) first 0 text))
-            × (putMid at (length out - at) out last ≡ filled (logFrom (length text) first 0 text) buffer)
+            (at + r .length ≡ length (laterLog first text))
+            × (putMid at (length out - at) out last ≡ filled (laterLog first text) buffer)
         turn-stops stop =
             let t = turnOf s (accepted + 2) rest in
             let so : t .goesOn ≡ false = sym more-is ∙ stop in

@@ -20,11 +20,10 @@ use Rattle.frame.specs.Reading.{refusedBy, reads, restOf}
 use Rattle.frame.specs.Writing.{lineOf, leaves}
 use Rattle.frame.proofs.Proved.{lengths-are-known}
 use Rattle.bench.specs.Log.{refusedAt, logFrom, begun, opened}
-use Rattle.bench.specs.Turned.{filled}
+use Rattle.bench.specs.Steps.{filled, laterLog, openedLog, linesRoom}
 use Rattle.bench.proofs.Sizes.{refusal-size}
 use Rattle.bench.proofs.Told.{open-refuses}
 use Rattle.bench.proofs.Fuel.{fuel-same}
-use Rattle.bench.proofs.Room.{linesRoom}
 use Rattle.bench.proofs.Parts.{part-is, put-whole}
 
 pub leaves-fills : (line buffer : List ℕ) → length line ≤ length buffer → leaves line buffer ≡ filled line buffer
@@ -33,7 +32,7 @@ leaves-fills line buffer h = simp (le-leb (length line) (length buffer) h)
 
 pub open-refused : (text out : List ℕ) (n : ℕ) → linesRoom text ≤ length out → reads text true ≡ refusedBy n →
     (last : List ℕ) → last ≡ leaves (refusedAt n 1) out →
-    (11 ≡ length (opened text (reads text true))) × (last ≡ filled (opened text (reads text true)) out)
+    (11 ≡ length (openedLog text)) × (last ≡ filled (openedLog text) out)
 open-refused text out n room e last f =
     rw (open-refuses text n e)
     (sym (refusal-size n 1), f ∙ leaves-fills (refusedAt n 1) out (omega (arith, refusal-size n 1)))
@@ -77,9 +76,9 @@ module _ (text out : List ℕ) (a : Answer) (room : linesRoom text ≤ length ou
     later-room later f = rw (f, behind) (omega (arith, length-drop 9 text, length-drop 9 out, whole))
 
     module _ (state : eqb (a .refusal) 0 ≡ true) (later : List ℕ) (f : later ≡ restOf text) (size : ℕ)
-        (g : size ≡ length (logFrom (length later) (a .state) 0 later)) (last : List ℕ)
-        (h : last ≡ filled (logFrom (length later) (a .state) 0 later) (midOf 9 (length front - 9) front)) where
-      begun-is : begun text a ≡ lineOf (kind ∷ edition ∷ n ∷ []) ++ logFrom (length later) (a .state) 0 later
+        (g : size ≡ length (laterLog (a .state) later)) (last : List ℕ)
+        (h : last ≡ filled (laterLog (a .state) later) (midOf 9 (length front - 9) front)) where
+      begun-is : begun text a ≡ lineOf (kind ∷ edition ∷ n ∷ []) ++ laterLog (a .state) later
       unfolding begun
       begun-is =
           simp (state, as-read)
@@ -94,13 +93,13 @@ module _ (text out : List ℕ) (a : Answer) (room : linesRoom text ≤ length ou
             g,
             nine,
             ap length begun-is,
-            length-append (lineOf (kind ∷ edition ∷ n ∷ [])) (logFrom (length later) (a .state) 0 later),
+            length-append (lineOf (kind ∷ edition ∷ n ∷ [])) (laterLog (a .state) later),
           )
 
       pub begin-follows : (9 + size ≡ length (begun text a)) × (putMid 9 (length front - 9) front last ≡ filled (begun text a) out)
       begin-follows =
           let line = lineOf (kind ∷ edition ∷ n ∷ []) in
-          let log = logFrom (length later) (a .state) 0 later in (
+          let log = laterLog (a .state) later in (
             begun-long,
             put-whole 9 front last
                 ∙ ap (λ (l : List ℕ). l ++ last) (ap (take 9) front-is ∙ take-at line (drop 9 out) 9 nine)

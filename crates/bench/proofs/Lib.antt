@@ -7,3 +7,6 @@ pub mod Parts
 pub mod Carried
 pub mod FirstLine
 pub mod Whole
+pub mod Along
+pub mod Proved
+pub mod Examples

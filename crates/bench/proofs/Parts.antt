@@ -15,7 +15,7 @@ use lib.Dec.{leb}
 use borrow.Author.Tests.{le-leb}
 use borrow.Rule.Slice.PartMut.{midOf, putMid}
 use Rattle.frame.specs.Writing.{leaves}
-use Rattle.bench.specs.Turned.{filled}
+use Rattle.bench.specs.Steps.{filled}
 
 -- the line stands in the buffer from a place on: `out` was before
 pub record Put (at : ℕ) (out line after : List ℕ) : Type 0 where

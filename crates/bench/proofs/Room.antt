@@ -17,11 +17,8 @@ use Rattle.lock.specs.Event.{fresh}
 use Rattle.frame.specs.Reading.{reads, restOf}
 use Rattle.bench.specs.Log.{longest, second, third, turnOf, logFrom, begun, opened, logOf}
 use Rattle.bench.specs.Lent.{roomFor}
+use Rattle.bench.specs.Steps.{linesRoom}
 use Rattle.bench.proofs.Sizes.{cases, count-size, refusal-size, whole-nine, GoesOn, Stops, turn-size}
-
--- 17 bytes for each whole line, and 11 more
-abbrev pub linesRoom : List ℕ → ℕ
-linesRoom text = 17 * (length text / 9) + 11
 
 pub later-fits : (fuel : ℕ) (s : LockState) (accepted : ℕ) (text : List ℕ) → length (logFrom fuel s accepted text) ≤ linesRoom text
 unfolding logFrom

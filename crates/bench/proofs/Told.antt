@@ -15,6 +15,7 @@ use Rattle.lock.specs.Event.{fresh, happens}
 use Rattle.frame.specs.Pairs.{pairsFrom}
 use Rattle.frame.specs.Reading.{Told, refusedBy, kindOf, reads}
 use Rattle.frame.proofs.Refusals.{by-order, is-accepted}
+use Rattle.bench.specs.Steps.{eventTurn, openedLog}
 use Rattle.bench.specs.Log.{refusedAt, stopped, answered, followed, turnOf, begun, opened}
 
 -- a frame's numbers as the reader says them
@@ -34,7 +35,7 @@ refused-not-zero text isFirst n e =
 
 module _ (s : LockState) (line : ℕ) (text : List ℕ) where
   pub turn-answers : (kind event p check : ℕ) → reads text false ≡ framed kind event p check →
-      turnOf s line text ≡ answered s line event p (happens s event p)
+      turnOf s line text ≡ eventTurn s line event p
   unfolding turnOf followed
   turn-answers kind event p check e = ap (followed s line) e
 
@@ -44,10 +45,10 @@ module _ (s : LockState) (line : ℕ) (text : List ℕ) where
 
 module _ (text : List ℕ) where
   pub open-begins : (kind edition n check : ℕ) → reads text true ≡ framed kind edition n check →
-      opened text (reads text true) ≡ begun text (fresh edition n)
+      openedLog text ≡ begun text (fresh edition n)
   unfolding opened
   open-begins kind edition n check e = ap (opened text) e
 
-  pub open-refuses : (n : ℕ) → reads text true ≡ refusedBy n → opened text (reads text true) ≡ refusedAt n 1
+  pub open-refuses : (n : ℕ) → reads text true ≡ refusedBy n → openedLog text ≡ refusedAt n 1
   unfolding opened
   open-refuses n e = ap (opened text) e ∙ simp (refused-not-zero text true n e)

@@ -13,15 +13,14 @@ use mathlib.Core.Logic.{⊎-elim}
 use mathlib.Core.Bool.{true, false}
 use mathlib.Core.List.{List, _++_}
 use lib.ListN.{length, drop, length-append}
+use lib.Seq.{length-take-le}
 use lib.Dec.{ltb}
 use borrow.Author.Tests.{ltb-false}
-use Rattle.frame.specs.Reading.{reads}
 use Rattle.bench.specs.declared.Logged.{Logged}
 use Rattle.bench.specs.Log.{longest, refusedAt, opened, logOf}
-use Rattle.bench.specs.Lent.{roomFor, logged, left}
-use Rattle.bench.specs.Turned.{filled}
+use Rattle.bench.specs.Lent.{roomFor, logged, left, Counts}
+use Rattle.bench.specs.Steps.{filled, openedLog, linesRoom}
 use Rattle.bench.proofs.Sizes.{cases}
-use Rattle.bench.proofs.Room.{linesRoom}
 
 eleven : (bytes : ℕ) → 11 ≤ roomFor bytes
 unfolding roomFor
@@ -36,15 +35,15 @@ module _ (text : List ℕ) where
   unfolding logOf
   is-long e = simp e
 
-  pub is-opened : ltb longest (length text) ≡ false → logOf text ≡ opened text (reads text true)
+  pub is-opened : ltb longest (length text) ≡ false → logOf text ≡ openedLog text
   unfolding logOf
   is-opened e = simp e
 
   module _ (out : List ℕ) (room : ℕ) (e : room ≡ roomFor (length text)) where
     pub is-short : ltb (length out) room ≡ true →
-        (_≡_ {A = Logged} (record { refusal = 10; length = 0 }) (logged text out)) × ((out ≡ left text out) × (0 ≤ length out))
+        (_≡_ {A = Logged} (record { refusal = 10; length = 0 }) (logged text out)) × ((out ≡ left text out) × Counts 0 out)
     unfolding logged left
-    is-short h = (simp (← e, h), (simp (← e, h), omega arith))
+    is-short h = (simp (← e, h), (simp (← e, h), (omega arith, refl)))
 
     module _ (h : ltb (length out) room ≡ false) where
       pub has-room : ltb longest (length text) ≡ false → linesRoom text ≤ length out
@@ -57,9 +56,10 @@ module _ (text : List ℕ) where
       long-room = omega (arith, ltb-false (length out) room h, e, eleven (length text))
 
       pub is-logged : (log : List ℕ) → logOf text ≡ log → (size : ℕ) → size ≡ length log → (last : List ℕ) → last ≡ filled log out →
-          (_≡_ {A = Logged} (record { refusal = 0; length = size }) (logged text out)) × ((last ≡ left text out) × (size ≤ length last))
+          (_≡_ {A = Logged} (record { refusal = 0; length = size }) (logged text out)) × ((last ≡ left text out) × Counts size last)
       unfolding logged left
-      is-logged log is size f last g = (
-        simp (← e, h, is, f),
-        (simp (← e, h, is) g, omega (arith, ap length g, length-append log (drop (length log) out))),
-      )
+      is-logged log is size f last g =
+          let within : size ≤ length last = omega (arith, ap length g, length-append log (drop (length log) out)) in (
+            simp (← e, h, is, f),
+            (simp (← e, h, is) g, (within, sym (length-take-le size last within))),
+          )

@@ -1,10 +1,11 @@
 -- What the bench answers for a lent buffer, and what the buffer holds afterwards. Document 01 leaves open a buffer that is too
 -- short for the whole log: it is refused by 10, before anything is written, where it is shorter than the longest log that a
 -- schedule of that length can have.
-use Prim.Native.Nat.{ℕ, _+_, _*_, _/_}
+use Prim.Native.Nat.{ℕ, _+_, _*_, _/_, _≤_}
+use mathlib.Core.Path.{_≡_}
 use mathlib.Core.Bool.{cond}
 use mathlib.Core.List.{List, _++_}
-use lib.ListN.{length, drop}
+use lib.ListN.{length, take, drop}
 use lib.Dec.{ltb}
 use Rattle.bench.specs.declared.Logged.{Logged}
 use Rattle.bench.specs.Log.{longest, logOf}
@@ -23,3 +24,7 @@ logged text out =
 unfoldable pub left : List ℕ → List ℕ → List ℕ
 left text out =
     cond (ltb (length out) (roomFor (length text))) out (logOf text ++ drop (length (logOf text)) out)
+
+-- the answered number counts bytes of the buffer, so a caller may take that part of it without more ado
+abbrev pub Counts : ℕ → List ℕ → Type 0
+Counts n buffer = (n ≤ length buffer) × (n ≡ length (take n buffer))

@@ -1,4 +1,6 @@
--- What must be believed of the bench: the log of a schedule, and what the lent buffer holds afterwards.
+-- What must be believed of the bench: the log of a schedule, what the lent buffer holds afterwards, and how a log is a run.
 pub mod Log
 pub mod Lent
-pub mod Turned
+pub mod Steps
+pub mod Laws
+pub mod Bridge

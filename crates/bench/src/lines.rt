@@ -13,6 +13,18 @@ pub(crate) const ROW: usize = 17;
 
 pub(crate) const REFUSAL: usize = 11;
 
+// Event 1, and the place inside: an entry is a step that ends there.
+const STEP: u8 = 1;
+
+const INSIDE: u8 = 9;
+
+// The marks' weights.
+const FLAG: u8 = 1;
+
+const GUARD: u8 = 2;
+
+const ENTRY: u8 = 4;
+
 // The high byte of a number in two bytes.
 pub(crate) fn high(k: usize) -> u8
     ensures { λ r. ⌜ r ≡ high k ⌝ }
@@ -41,13 +53,13 @@ pub(crate) fn write_counted(out: &mut [u8], accepted: usize)
     frame::write_count(out, high(accepted), low(accepted));
 }
 
-// The marks of processor p's row after an accepted event: 1 flag, 2 guard, 4 entry.
+// The marks of processor p's row after an accepted event, added. A raise at a processor inside is no entry.
 pub(crate) fn marks(state: LockState, event: u8, p: u8) -> u8
     ensures { λ r. ⌜ r ≡ marks state event p ⌝ }
 {
     let row = state.row(p);
-    let entry = (event == 1) & (row.place == 9);
-    mark(row.flag, 1) + mark(row.guard, 2) + mark(entry, 4)
+    let entry = (event == STEP) & (row.place == INSIDE);
+    mark(row.flag, FLAG) + mark(row.guard, GUARD) + mark(entry, ENTRY)
 }
 
 // A mark's weight where it is given.

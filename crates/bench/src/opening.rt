@@ -5,23 +5,26 @@ use crate::turns;
 use frame::Line;
 use lock::LockState;
 ghost use mathlib.Core.Path.{_≡_};
-ghost use mathlib.Core.Bool.{true};
-ghost use mathlib.Core.List.{[], _∷_, _++_};
-ghost use Prim.Native.Nat.{_+_, _*_, _/_, _≤_};
-ghost use lib.ListN.{length, take, drop};
+ghost use mathlib.Core.List.{[], _∷_};
+ghost use Prim.Native.Nat.{_≤_};
+ghost use lib.ListN.{length, take};
 ghost use Rattle.lock.specs.Event.{fresh};
-ghost use Rattle.frame.specs.Reading.{reads};
 ghost use Rattle.frame.specs.Writing.{lineOf};
-ghost use Rattle.bench.specs.Log.{begun, opened};
-ghost use Rattle.bench.specs.Lent.{roomFor, logged, left};
-ghost use Rattle.bench.specs.Turned.{filled};
+ghost use Rattle.bench.specs.Log.{begun};
+ghost use Rattle.bench.specs.Lent.{roomFor, logged, left, Counts};
+ghost use Rattle.bench.specs.Steps.{filled, openedLog, linesRoom};
 
 // A schedule has at most 6,001 lines.
 const LONGEST: usize = 54009;
 
+// The refusals that are the bench's own: a schedule that is too long, and a buffer without the room.
+const TOO_LONG: u8 = 1;
+
+const NO_ROOM: u8 = 10;
+
 // Line 1 as read, then the later lines; or the refusal of line 1 alone.
 pub(crate) fn begin(out: &mut [u8], schedule: &[u8], kind: u8, edition: u8, n: u8) -> usize
-    requires { ⌜ 17 * (length (now schedule) / 9) + 11 ≤ length (now out) ⌝ }
+    requires { ⌜ linesRoom (now schedule) ≤ length (now out) ⌝ }
     requires { ⌜ take 9 (now schedule) ≡ lineOf (kind ∷ edition ∷ n ∷ []) ⌝ }
     ensures { λ r. ⌜ r ≡ length (begun (now (schedule .entry)) (fresh edition n)) ⌝ }
     ensures { λ _. ⌜ now (out .exit) ≡ filled (begun (now (schedule .entry)) (fresh edition n)) (now (out .entry)) ⌝ }
@@ -42,9 +45,9 @@ pub(crate) fn begin(out: &mut [u8], schedule: &[u8], kind: u8, edition: u8, n: u
 
 // Line 1 as the reader reads it.
 pub(crate) fn open(out: &mut [u8], schedule: &[u8]) -> usize
-    requires { ⌜ 17 * (length (now schedule) / 9) + 11 ≤ length (now out) ⌝ }
-    ensures { λ r. ⌜ r ≡ length (opened (now (schedule .entry)) (reads (now (schedule .entry)) true)) ⌝ }
-    ensures { λ _. ⌜ now (out .exit) ≡ filled (opened (now (schedule .entry)) (reads (now (schedule .entry)) true)) (now (out .entry)) ⌝ }
+    requires { ⌜ linesRoom (now schedule) ≤ length (now out) ⌝ }
+    ensures { λ r. ⌜ r ≡ length (openedLog (now (schedule .entry))) ⌝ }
+    ensures { λ _. ⌜ now (out .exit) ≡ filled (openedLog (now (schedule .entry))) (now (out .entry)) ⌝ }
 {
     match frame::read(schedule, true) {
         Line::Frame(kind, edition, n, _) => begin(out, schedule, kind, edition, n),
@@ -70,20 +73,20 @@ pub(crate) fn room_for(bytes: usize) -> usize
 pub fn bench(schedule: &[u8], out: &mut [u8]) -> Logged
     ensures { λ r. ⌜ r ≡ logged (now (schedule .entry)) (now (out .entry)) ⌝ }
     ensures { λ _. ⌜ now (out .exit) ≡ left (now (schedule .entry)) (now (out .entry)) ⌝ }
-    ensures { λ r. ⌜ r .length ≤ length (now (out .exit)) ⌝ }
+    ensures { λ r. ⌜ Counts (r .length) (now (out .exit)) ⌝ }
 {
     let size = schedule.len();
     let room = room_for(size);
     let short = out.len() < room;
     if short {
         return Logged {
-            refusal: 10,
+            refusal: NO_ROOM,
             length: 0,
         };
     }
     let long = LONGEST < size;
     if long {
-        lines::write_refused_at(out, 1, 0);
+        lines::write_refused_at(out, TOO_LONG, 0);
         return Logged {
             refusal: 0,
             length: lines::REFUSAL,

@@ -3,16 +3,14 @@ use crate::lines;
 use frame::Line;
 use lock::LockState;
 ghost use mathlib.Core.Path.{_≡_};
-ghost use mathlib.Core.List.{_++_};
-ghost use Prim.Native.Nat.{_+_, _*_, _/_, _≤_};
-ghost use lib.ListN.{length, drop};
-ghost use Rattle.lock.specs.Event.{happens};
+ghost use Prim.Native.Nat.{_≤_};
+ghost use lib.ListN.{length};
 ghost use Rattle.frame.specs.Writing.{leaves};
-ghost use Rattle.bench.specs.Log.{refusedAt, stopped, answered, turnOf, logFrom};
-ghost use Rattle.bench.specs.Turned.{turned, filled};
+ghost use Rattle.bench.specs.Log.{refusedAt, stopped, turnOf};
+ghost use Rattle.bench.specs.Steps.{turned, filled, eventTurn, laterLog, linesRoom};
 
 // What one later line makes: whether the schedule goes on after it, how many bytes are written, and the next state.
-pub struct Turned {
+pub(crate) struct Turned {
     pub more: bool,
     pub length: usize,
     pub state: LockState,
@@ -20,8 +18,8 @@ pub struct Turned {
 
 // The event on the state: its row shown, or the refusal of this line.
 pub(crate) fn answer(out: &mut [u8], state: LockState, line: usize, event: u8, p: u8) -> Turned
-    ensures { λ r. ⌜ r ≡ turned (answered state line event p (happens state event p)) ⌝ }
-    ensures { λ _. ⌜ now (out .exit) ≡ leaves ((answered state line event p (happens state event p)) .written) (now (out .entry)) ⌝ }
+    ensures { λ r. ⌜ r ≡ turned (eventTurn state line event p) ⌝ }
+    ensures { λ _. ⌜ now (out .exit) ≡ leaves (eventTurn state line event p .written) (now (out .entry)) ⌝ }
 {
     let answer = state.event(event, p);
     let refusal = answer.refusal;
@@ -54,7 +52,7 @@ pub(crate) fn refuse(out: &mut [u8], state: LockState, refusal: u8, line: usize)
 // The line that begins the text.
 pub(crate) fn turn(out: &mut [u8], state: LockState, line: usize, text: &[u8]) -> Turned
     ensures { λ r. ⌜ r ≡ turned (turnOf state line (now (text .entry))) ⌝ }
-    ensures { λ _. ⌜ now (out .exit) ≡ leaves ((turnOf state line (now (text .entry))) .written) (now (out .entry)) ⌝ }
+    ensures { λ _. ⌜ now (out .exit) ≡ leaves (turnOf state line (now (text .entry)) .written) (now (out .entry)) ⌝ }
 {
     match frame::read(text, false) {
         Line::Frame(_, event, p, _) => answer(out, state, line, event, p),
@@ -64,9 +62,9 @@ pub(crate) fn turn(out: &mut [u8], state: LockState, line: usize, text: &[u8]) -
 
 // The later lines, one after the other, from a state on: how many bytes are written.
 pub(crate) fn follow(out: &mut [u8], state: LockState, text: &[u8]) -> usize
-    requires { ⌜ 17 * (length (now text) / 9) + 11 ≤ length (now out) ⌝ }
-    ensures { λ r. ⌜ r ≡ length (logFrom (length (now (text .entry))) state 0 (now (text .entry))) ⌝ }
-    ensures { λ _. ⌜ now (out .exit) ≡ filled (logFrom (length (now (text .entry))) state 0 (now (text .entry))) (now (out .entry)) ⌝ }
+    requires { ⌜ linesRoom (now text) ≤ length (now out) ⌝ }
+    ensures { λ r. ⌜ r ≡ length (laterLog state (now (text .entry))) ⌝ }
+    ensures { λ _. ⌜ now (out .exit) ≡ filled (laterLog state (now (text .entry))) (now (out .entry)) ⌝ }
 {
     let mut rest = text;
     let mut state = state;

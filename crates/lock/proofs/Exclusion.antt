@@ -1,30 +1,32 @@
--- Mutual exclusion, for every edition: never two processors inside. Token has the statement, Acts the acts one by one; here they
--- are put together.
+-- Mutual exclusion, for every edition: never two processors inside. Token has the statement, Steps and Moves the acts
+-- one by one; here they are put together.
 --     excl-fresh       the fresh state meets the statement
 --     excl-after       every call keeps it
 --     excl-inside      who is inside bears the token, so two who are inside are one
 pub mod Token
-pub mod Acts
+pub mod Steps
+pub mod Moves
 use Prim.Native.Nat.{ℕ, _<_, _≤_}
-use mathlib.Core.Path.{_≡_, refl, sym, ap, subst, _∙_}
-use mathlib.Core.Bool.{Bool, true, false}
+use mathlib.Core.Path.{_≡_, refl, sym, ap, _∙_}
+use mathlib.Core.Bool.{true}
 use native.Mathlib.Omega.{arith}
 use lib.Dec.{eqb, leb}
-use lib.ListN.{length, length-replicate, getD-replicate}
+use lib.ListN.{length}
 use borrow.Author.Tests.{eqb-true}
 use Rattle.lock.specs.declared.LockState.{LockState}
-use Rattle.lock.specs.State.{processors, freshRow, freshState, row, withFlag, putFlag}
+use Rattle.lock.specs.State.{processors, freshState, row, withFlag, putFlag}
 use Rattle.lock.specs.Sound.{sound}
 use Rattle.lock.specs.Table.{Place, placeAt, act, stepped, rest, gate, clear, swap, arm, link, claim, spin, settle, inside, poll, service, back, regain, look, close, await, hand, fence, park, peek, take, lift, nowhere}
 use Rattle.lock.specs.Event.{raised}
 use Rattle.lock.specs.Run.{Call, after, isInside}
-use Rattle.lock.proofs.Order.Tickets.{Tickets, noTickets}
+use Rattle.lock.proofs.Order.Tickets.{noTickets}
 use Rattle.lock.proofs.Order.Calls.{by-call, sound-bounds}
 use Rattle.lock.proofs.Order.Writes.{fresh-row}
-use Rattle.lock.proofs.Order.Stages.{Stage, holding, stageOf, stageAt}
+use Rattle.lock.proofs.Order.Stages.{holding, stageOf}
 use Rattle.lock.proofs.Exclusion.Token as Token
-use Rattle.lock.proofs.Exclusion.Token.{Sole, SoleRow, blind}
-use Rattle.lock.proofs.Exclusion.Acts.{rest-excl, gate-excl, clear-excl, swap-excl, arm-excl, link-excl, claim-excl, spin-excl, settle-excl, inside-excl, poll-excl, service-excl, back-excl, regain-excl, look-excl, close-excl, await-excl, hand-excl, fence-excl, park-excl, peek-excl, take-excl, lift-excl}
+use Rattle.lock.proofs.Exclusion.Token.{Sole, blind}
+use Rattle.lock.proofs.Exclusion.Steps.{rest-excl, gate-excl, clear-excl, swap-excl, arm-excl, link-excl, spin-excl, settle-excl, inside-excl, poll-excl, service-excl, back-excl, regain-excl, look-excl, close-excl, await-excl, fence-excl}
+use Rattle.lock.proofs.Exclusion.Moves.{claim-excl, hand-excl, park-excl, peek-excl, take-excl, lift-excl}
 
 pub Excl : LockState → Type 0
 Excl s = Token.Excl s
@@ -35,11 +37,14 @@ excl-fresh e n small some many =
     record {
       rooms = refl;
       bearer = 0;
-      rows = λ q. rw (fresh-row e n q) (record { settled = refl; one = λ u. absurd (let z : _≡_ {A = ℕ} 0 1 = cc in omega arith) });
+      rows = λ q. rw (fresh-row e n q)
+          (record { settled = refl; one = λ u. absurd (let z : _≡_ {A = ℕ} 0 1 = cc in omega arith) });
     }
 
 -- the act of each place
-acts : (s : LockState) (p : ℕ) (k : Place) → Token.Excl s → p < length (s .rows) → placeAt ((row s p) .place) ≡ k → Token.Excl (act k s p)
+acts :
+    (s : LockState) (p : ℕ) (k : Place) → Token.Excl s → p < length (s .rows) → placeAt ((row s p) .place) ≡ k
+    → Token.Excl (act k s p)
 acts s p rest x room e = rest-excl s p x room (ap stageOf e)
 acts s p gate x room e = gate-excl s p x room (ap stageOf e)
 acts s p clear x room e = clear-excl s p x room (ap stageOf e)
@@ -80,7 +85,8 @@ excl-after s c x =
 inside-bearer : (s : LockState) (p : ℕ) (x : Token.Excl s) → isInside s p ≡ true → p ≡ x .bearer
 unfolding isInside
 inside-bearer s p x h =
-    let f : Sole (x .bearer) (s .tail) p holding ((row s p) .locked) (eqb ((row s p) .nx) 255) = rw (eqb-true ((row s p) .place) 9 h) at (x .rows p) in
+    let f : Sole (x .bearer) (s .tail) p holding ((row s p) .locked) (eqb ((row s p) .nx) 255) = rw
+    (eqb-true ((row s p) .place) 9 h) at (x .rows p) in
     f .one refl .0
 
 pub excl-inside : (s : LockState) (p q : ℕ) → Excl s → isInside s p ≡ true → isInside s q ≡ true → p ≡ q

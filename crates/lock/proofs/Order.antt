@@ -15,3 +15,5 @@ pub mod Hand
 pub mod Take
 pub mod Invariant
 pub mod Fence
+pub mod Choices
+pub mod Build

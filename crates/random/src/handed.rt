@@ -102,7 +102,7 @@ const PLACES: [[u8; 23]; 3] = [
 ];
 
 // Two hundred trials.
-pub fn block(number: u64) -> Block {
+pub fn trials(number: u64) -> Block {
     let mut b = Block {
         accepted: 0,
         digest: 7,
@@ -176,14 +176,12 @@ fn rows(edition: u8, n: u8, d: Dice) -> Made {
 fn with_row(edition: u8, n: u8, i: u8, made: Made) -> Made {
     let drawn = a_row(edition, n, made.dice);
     let row = drawn.row;
+    let dice = drawn.dice;
     let mut state = made.state;
     if i < 16 {
         state.rows[i as usize] = row;
     }
-    Made {
-        state,
-        dice: drawn.dice,
-    }
+    Made { state, dice }
 }
 
 fn a_row(edition: u8, n: u8, d: Dice) -> Drawn {
@@ -229,9 +227,10 @@ fn place_of(edition: u8, at: u64) -> u8 {
 fn damaged(made: Made) -> Made {
     let before = made.dice;
     let whether = before.roll(4);
+    let mut state = made.state;
     if whether.got != 0 {
         return Made {
-            state: made.state,
+            state,
             dice: whether,
         };
     }
@@ -239,7 +238,6 @@ fn damaged(made: Made) -> Made {
     let value = cell.roll(256);
     let r = value.roll(16);
     let v = (value.got % 256) as u8;
-    let mut state = made.state;
     if cell.got == 0 {
         state.edition = v;
     }
@@ -274,7 +272,8 @@ fn broken(row: Row, cell: u64, v: u8) -> Row {
 // the event, in `got`
 fn happening(d: Dice) -> Dice {
     let kind = d.roll(8);
-    match kind.got {
+    let k = kind.got;
+    match k {
         0 => Dice { x: kind.x, got: 2 },
         1 => kind.roll(256),
         _ => Dice { x: kind.x, got: 1 },

@@ -12,16 +12,37 @@ fn main() {
     // 54,010 bytes for a schedule that is too long.
     let mut schedule = [0u8; 54010];
     let mut log = [0u8; 102028];
-    for i in 0..480u64 {
-        let length = text::make(plan::plan(i), &mut schedule);
-        if length <= schedule.len() {
-            let logged = bench::bench(&schedule[..length], &mut log);
-            let n = logged.length;
-            show(i, &log[..n]);
-        }
+    schedules(&mut schedule, &mut log);
+    states();
+}
+
+fn schedules(schedule: &mut [u8], log: &mut [u8]) {
+    let mut i: u64 = 0;
+    while i < 480 {
+        run(i, schedule, log);
+        i += 1;
     }
-    for block in 0..100u64 {
-        show_block(block, handed::block(block));
+}
+
+fn states() {
+    let mut block: u64 = 0;
+    while block < 100 {
+        show_block(block, handed::trials(block));
+        block += 1;
+    }
+}
+
+// Schedule number i: made, run and shown.
+fn run(i: u64, schedule: &mut [u8], log: &mut [u8]) {
+    let length = text::make(plan::planned(i), schedule);
+    tell(i, schedule, length, log);
+}
+
+fn tell(i: u64, schedule: &[u8], length: usize, log: &mut [u8]) {
+    if length <= schedule.len() {
+        let logged = bench::bench(&schedule[..length], log);
+        let n = logged.length;
+        show(i, &log[..n]);
     }
 }
 

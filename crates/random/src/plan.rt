@@ -12,7 +12,7 @@ pub struct Plan {
     pub dice: Dice,
 }
 
-pub fn plan(i: u64) -> Plan {
+pub fn planned(i: u64) -> Plan {
     let size = processors(Dice::seeded(i, 17));
     let n = size.got;
     let number = lines(size, i);

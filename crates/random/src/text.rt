@@ -157,31 +157,48 @@ fn harm(plan: Plan, made: Made, text: &mut [u8]) -> usize {
     let d = made.dice;
     let end = made.at;
     if plan.damage == 6 {
-        let place = d.roll(end as u64);
-        let byte = place.roll(256);
-        put(text, place.got, byte.got);
+        return any_byte(d, end, text);
     }
     if plan.damage == 7 {
         let short = d.roll(end as u64);
         return (short.got % 65536) as usize;
     }
     if plan.damage == 8 {
-        let row = d.roll(plan.count % 65536 + 1);
-        let column = row.roll(8);
-        let byte = column.roll(7);
-        put(
-            text,
-            row.got % 65536 * 9 + column.got % 8,
-            byte.got % 7 + 58,
-        );
+        return no_digit(d, plan.count, end, text);
     }
     if plan.damage == 9 {
         return filled(text, end);
     }
     if plan.damage == 10 {
-        let at = plan.victim % 65536 * 9 + 7;
-        swap_digit(text, at);
+        return wrong_check(plan.victim, end, text);
     }
+    end
+}
+
+// any byte where there was any other
+fn any_byte(d: Dice, end: usize, text: &mut [u8]) -> usize {
+    let place = d.roll(end as u64);
+    let byte = place.roll(256);
+    put(text, place.got, byte.got);
+    end
+}
+
+// a byte that is no digit where a digit was
+fn no_digit(d: Dice, count: u64, end: usize, text: &mut [u8]) -> usize {
+    let row = d.roll(count % 65536 + 1);
+    let column = row.roll(8);
+    let byte = column.roll(7);
+    put(
+        text,
+        row.got % 65536 * 9 + column.got % 8,
+        byte.got % 7 + 58,
+    );
+    end
+}
+
+// another last digit in the check of the victim's line
+fn wrong_check(victim: u64, end: usize, text: &mut [u8]) -> usize {
+    swap_digit(text, victim % 65536 * 9 + 7);
     end
 }
 

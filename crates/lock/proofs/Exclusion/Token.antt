@@ -1,14 +1,15 @@
--- Mutual exclusion for every edition, without ghosts: there is one token, and who is inside has it. Here: who bears the token,
--- the statement that at most one does, and how a step keeps it or moves it. The acts, place by place, stand in Exclusion.Acts.
+-- Mutual exclusion for every edition, without ghosts: there is one token, and who is inside has it. Here: who bears
+-- the token, the statement that at most one does, and how a step keeps it or moves it. The acts, place by place,
+-- stand in Steps and Moves.
 --     locks, bears         by stage: which locked a row may have, and whether the row bears the token
 --     Sole                 what is said of one row: its locked is in order, and if it bears the token then it is the bearer
 --     Excl                 the statement of a state
 --     quiet                a step that writes only its own row and gains no token keeps the statement
 --     blind                a put to a cell that the statement does not mention keeps it
 --     parked-bears, parked-left, free-locks, parked-locks      what the two tables say of 0, 2 and 3
-use Prim.Native.Nat.{ℕ, _<_}
+use Prim.Native.Nat.{ℕ}
 use mathlib.Core.Path.{_≡_, refl, sym, subst, _∙_}
-use mathlib.Core.Bool.{Bool, true, false, not, _&&_, _||_}
+use mathlib.Core.Bool.{Bool, true, false, not, _||_}
 use mathlib.Core.Logic.{_≢_}
 use lib.Dec.{eqb, leb}
 use lib.ListN.{length}
@@ -16,10 +17,10 @@ use Rattle.lock.specs.declared.Row.{Row}
 use Rattle.lock.specs.declared.LockState.{LockState}
 use Rattle.lock.specs.Choice.{every}
 use Rattle.lock.specs.State.{processors, none, isNone, Released, Preempted, RP, row, putRow}
+use Rattle.lock.proofs.Order.Choices.{implies, implied}
 use Rattle.lock.proofs.Rows.{rows-put}
-use Rattle.lock.proofs.Order.Calls.{and-left, and-right}
 use Rattle.lock.proofs.Order.Writes.{Own, own-all, put-all}
-use Rattle.lock.proofs.Order.Stages.{Stage, resting, clearing, swapping, arming, linking, claiming, spinning, settling, holding, serving, regaining, handing, fencing, parking, peeking, taking, lifting, stageAt, stage-by, implies, implied}
+use Rattle.lock.proofs.Order.Stages.{Stage, resting, clearing, swapping, arming, linking, claiming, spinning, settling, holding, serving, regaining, handing, fencing, parking, peeking, taking, lifting, stageAt, stage-by}
 
 -- locked by stage
 abbrev pub locks : Stage → ℕ → Bool
@@ -41,7 +42,8 @@ locks peeking l = eqb l 0
 locks taking l = eqb l 0
 locks lifting l = eqb l 0
 
--- by stage, locked and whether nx is none: the token is here. A parked token (R_P) is with the processor that it is parked on.
+-- by stage, locked and whether nx is none: the token is here. A parked token (R_P) is with the processor that it is
+-- parked on.
 abbrev pub bears : Stage → ℕ → Bool → Bool
 bears resting l x = false
 bears clearing l x = false
@@ -77,7 +79,8 @@ pub record Excl (s : LockState) : Type 0 where
   pub bearer : ℕ
   pub rows : (q : ℕ) → SoleRow bearer (s .tail) q (row s q)
 
--- a parked token is borne, and is gone once locked is Released; Released fits every stage; who may be Preempted may be R_P
+-- a parked token is borne, and is gone once locked is Released; Released fits every stage; who may be Preempted may
+-- be R_P
 pub parked-bears : (st : Stage) (x : Bool) → locks st RP ≡ true → bears st RP x ≡ true
 unfolding every
 parked-bears st x h =
@@ -86,7 +89,8 @@ parked-bears st x h =
 pub parked-left : (st : Stage) (x : Bool) → locks st RP ≡ true → not (bears st Released x) ≡ true
 unfolding every
 parked-left st x h =
-    implied (locks st RP) (not (bears st Released x)) (stage-by (λ st. implies (locks st RP) (not (bears st Released x))) refl st) h
+    implied (locks st RP) (not (bears st Released x))
+    (stage-by (λ st. implies (locks st RP) (not (bears st Released x))) refl st) h
 
 pub free-locks : (st : Stage) → locks st Released ≡ true
 unfolding every
@@ -94,7 +98,8 @@ free-locks st = stage-by (λ st. locks st Released) refl st
 
 pub parked-locks : (st : Stage) → locks st Preempted ≡ true → locks st RP ≡ true
 unfolding every
-parked-locks st h = implied (locks st Preempted) (locks st RP) (stage-by (λ st. implies (locks st Preempted) (locks st RP)) refl st) h
+parked-locks st h = implied (locks st Preempted) (locks st RP)
+    (stage-by (λ st. implies (locks st Preempted) (locks st RP)) refl st) h
 
 -- a step that writes only its own row and gains no token
 pub quiet :
@@ -111,7 +116,8 @@ quiet {s} {t} {p} {r} x o e mine =
 
 -- a put to a cell that the statement does not mention
 pub blind :
-    {s : LockState} (y : ℕ) (r : Row) → ((h tail q : ℕ) → SoleRow h tail q (row s y) → SoleRow h tail q r) → Excl s → Excl (putRow s y r)
+    {s : LockState} (y : ℕ) (r : Row) → ((h tail q : ℕ) → SoleRow h tail q (row s y) → SoleRow h tail q r) → Excl s
+    → Excl (putRow s y r)
 unfolding putRow
 blind {s} y r same x =
     record {

@@ -1,5 +1,5 @@
--- A call, by what becomes of it: refused (nothing changes), an accepted step, or an accepted raise. Accepted calls come with
--- what their acceptance tells. Also the parts of soundness that the arguments about runs use.
+-- A call, by what becomes of it: refused (nothing changes), an accepted step, or an accepted raise. Accepted calls
+-- come with what their acceptance tells. Also the parts of soundness that the arguments about runs use.
 --     by-call          a statement of state and tickets holds after every call, if it holds in these three cases
 --     sound-bounds     the number of processors is within the rows
 --     sound-plain      in the plain edition each row's place is one that this edition has
@@ -20,6 +20,7 @@ use Rattle.lock.specs.Sound.{noneOrBelow, hasPlace, cellsSound, placeSou
 use Rattle.lock.specs.Table.{stepped}
 use Rattle.lock.specs.Event.{accepted, refused, isStep, isRaise, raised, happens}
 use Rattle.lock.specs.Run.{Call, after, stepsOf, joins}
+use Rattle.lock.proofs.Order.Choices.{and-left, and-right}
 use Rattle.lock.proofs.Order.Tickets.{Tickets, ticketed}
 
 -- the tickets after p has joined
@@ -31,11 +32,14 @@ abbrev pub stepTickets : LockState → Tickets → ℕ → Tickets
 stepTickets s g p = pick (eqb ((row s p) .place) 3) (joined g p) g
 
 abbrev answer : Bool → Bool → Bool → LockState → LockState → Answer
-answer fit event high s t = pick (not fit) (refused 11 s) (pick (not event) (refused 8 s) (pick high (refused 9 s) (accepted t)))
+answer fit event high s t = pick (not fit) (refused 11 s)
+    (pick (not event) (refused 8 s) (pick high (refused 9 s) (accepted t)))
 
--- by-call's cases, the tests as Booleans: a sound state, an event, a processor too high, a step, the caller itself, a join
+-- by-call's cases, the tests as Booleans: a sound state, an event, a processor too high, a step, the caller itself, a
+-- join
 outcome :
-    (P : LockState → Tickets → Type 0) (fit event high step own join : Bool) (s t u : LockState) (g h : Tickets) → own ≡ true → P s g
+    (P : LockState → Tickets → Type 0) (fit event high step own join : Bool) (s t u : LockState) (g h : Tickets)
+    → own ≡ true → P s g
     → (fit ≡ true → high ≡ false → P t (pick join h g))
     → (fit ≡ true → high ≡ false → P u g)
     → P ((answer fit event high s (pick step t u)) .state)
@@ -54,36 +58,33 @@ pub by-call :
 unfolding after happens ticketed joins stepsOf
 by-call P s g c same step raise =
     let p = c .processor in
-    outcome P (sound s) (isStep (c .event) || isRaise (c .event)) (leb (s .n) p) (isStep (c .event)) (eqb p p) (eqb ((row s p) .place) 3)
+    outcome P (sound s) (isStep (c .event) || isRaise (c .event)) (leb (s .n) p) (isStep (c .event)) (eqb p p)
+    (eqb ((row s p) .place) 3)
     s (stepped s p) (raised s p) g (joined g p) (eq-eqb p p refl) same
     (λ fit high. step fit (leb-false (s .n) p high)) (λ fit high. raise fit (leb-false (s .n) p high))
-
--- the two halves of a conjunction
-pub and-left : (a b : Bool) → a && b ≡ true → a ≡ true
-and-left true b e = refl
-and-left false b e = e
-
-pub and-right : (a b : Bool) → a && b ≡ true → b ≡ true
-and-right true b e = e
-and-right false b e = cc
 
 -- what holds of every number below n holds of each
 pub every-at : (n : ℕ) (f : ℕ → Bool) (i : ℕ) → every n f ≡ true → i < n → f i ≡ true
 unfolding every
 every-at zero f i e h = absurd (omega arith)
 every-at (suc n) f i e h =
-    ⊎-elim (λ same. rw same (and-right (every n f) (f n) e)) (λ less. every-at n f i (and-left (every n f) (f n) e) less)
+    ⊎-elim (λ same. rw same (and-right (every n f) (f n) e))
+    (λ less. every-at n f i (and-left (every n f) (f n) e) less)
     (eq-or-lt-of-le (le-of-suc-le-suc h))
 
 -- sound's five parts, of which the third and the fifth are used
 parts : (a b c d e : Bool) → a && b && c && d && e ≡ true → (c ≡ true) × (e ≡ true)
-parts a b c d e h =
-    (and-right (a && b) c (and-left (a && b && c) d (and-left (a && b && c && d) e h)), and-right (a && b && c && d) e h)
+parts a b c d e h = (
+  and-right (a && b) c (and-left (a && b && c) d (and-left (a && b && c && d) e h)),
+  and-right
+      (a && b && c && d) e h,
+)
 
 sound-parts : (s : LockState) → sound s ≡ true → (leb (s .n) processors ≡ true) × (every processors (soundRow s) ≡ true)
 unfolding sound
 sound-parts s e =
-    parts (leb (s .edition) 2) (leb 1 (s .n)) (leb (s .n) processors) (noneOrBelow (s .n) (s .tail)) (every processors (soundRow s)) e
+    parts (leb (s .edition) 2) (leb 1 (s .n)) (leb (s .n) processors) (noneOrBelow (s .n) (s .tail))
+    (every processors (soundRow s)) e
 
 pub sound-bounds : (s : LockState) → sound s ≡ true → s .n ≤ processors
 sound-bounds s e = leb-true (s .n) processors (sound-parts s e .0)
@@ -103,10 +104,12 @@ fresh-place r h =
     let b = eqb (r .place) 0 in
     let c = isNone (r .pred) in
     let d = isNone (r .succ) in
-    eqb-true (r .place) 0 (and-right a b (and-left (a && b) c (and-left (a && b && c) d (and-left (a && b && c && d) (isNone (r .nx)) h))))
+    eqb-true (r .place) 0 (and-right a b
+    (and-left (a && b) c (and-left (a && b && c) d (and-left (a && b && c && d) (isNone (r .nx)) h))))
 
 -- each row's place is one that the plain edition has, also from N on
-pub sound-plain : (s : LockState) (q : ℕ) → sound s ≡ true → s .edition ≡ 0 → q < processors → hasPlace 0 ((row s q) .place) ≡ true
+pub sound-plain :
+    (s : LockState) (q : ℕ) → sound s ≡ true → s .edition ≡ 0 → q < processors → hasPlace 0 ((row s q) .place) ≡ true
 unfolding soundRow hasPlace
 sound-plain s q fit e h = by-bound (ltb q (s .n)) refl (every-at processors (soundRow s) q (sound-parts s fit .1) h)
   where
@@ -114,5 +117,7 @@ sound-plain s q fit e h = by-bound (ltb q (s .n)) refl (every-at processors (sou
     by-bound true b one =
         let both : cellsSound (s .n) (row s q) && placeSound (s .edition) (row s q) ≡ true = rw (b, soundRow) at one in
         subst (λ (z : ℕ). hasPlace z ((row s q) .place) ≡ true) e
-        (sound-place (s .edition) (row s q) (and-right (cellsSound (s .n) (row s q)) (placeSound (s .edition) (row s q)) both))
-    by-bound false b one = let fresh : asFresh (row s q) ≡ true = rw (b, soundRow) at one in rw (fresh-place (row s q) fresh) refl
+        (sound-place (s .edition) (row s q)
+        (and-right (cellsSound (s .n) (row s q)) (placeSound (s .edition) (row s q)) both))
+    by-bound false b one = let fresh : asFresh (row s q) ≡ true = rw (b, soundRow) at one in rw
+        (fresh-place (row s q) fresh) refl

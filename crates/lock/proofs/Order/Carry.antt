@@ -1,6 +1,6 @@
--- What becomes of the rows that a step does not write, when the ghosts change. The ghosts fall in two halves: the queue's (gone,
--- served, who, linked, releaser) and the fences' (fencer, lagged, peeked). A step changes few of them, and each row's clauses
--- ask only for what changed of its own.
+-- What becomes of the rows that a step does not write, when the ghosts change. The ghosts fall in two halves: the
+-- queue's (gone, served, who, linked, releaser) and the fences' (fencer, lagged, peeked). A step changes few of them,
+-- and each row's clauses ask only for what changed of its own.
 --     moved, refenced      a ghost with its first, or its second half replaced
 --     queued-map           to stay in the queue
 --     pass-fit             a row under a changed first half
@@ -8,7 +8,6 @@
 --     fenced-same, manned-same     a row of which the fences say the same
 --     fencing-map          a row whose fencing stays
 --     owner                who made a join that is still in the queue is in the queue
---     clash                no test comes out both ways
 use Prim.Native.Nat.{ℕ, suc, _<_, _≤_}
 use mathlib.Core.Path.{_≡_, refl, sym, ap, _∙_}
 use mathlib.Core.Bool.{Bool, true, false}
@@ -19,10 +18,7 @@ use Rattle.lock.specs.State.{none, isNone}
 use Rattle.lock.proofs.Order.Tickets.{Tickets}
 use Rattle.lock.proofs.Order.Stages.{Stage}
 use Rattle.lock.proofs.Order.Roles.{Role, out, raw, wait, tok, rel, lag, role, isQueued, joining, fences, isTaking, isOpen, isLifting}
-use Rattle.lock.proofs.Order.Statement.{Ghost, Books, Linked, Queued, Away, Raw, Wait, Tok, Rel, Lag, Duty, given-map, Fencing, Fenced, Fit}
-
-pub clash : {A : Type 0} {b : Bool} → b ≡ true → b ≡ false → A
-clash {A} {b} e f = absurd (let z : _≡_ {A = ℕ} 0 1 = cc in omega arith)
+use Rattle.lock.proofs.Order.Statement.{Ghost, Books, Linked, Queued, Raw, Wait, Tok, Rel, Lag, Duty, given-map, Fencing, Fenced, Fit}
 
 abbrev pub moved : Ghost → (a u : ℕ) → (ℕ → ℕ) → (ℕ → Bool) → ℕ → Ghost
 moved G a u J W r =
@@ -42,12 +38,15 @@ refenced G F K Z =
     }
 
 -- the books do not look at the fences
-pub refence-books : {g : Tickets} {G : Ghost} {t : ℕ} (F : ℕ → ℕ) (K : ℕ → Bool) (Z : ℕ → ℕ) → Books g G t → Books g (refenced G F K Z) t
+pub refence-books :
+    {g : Tickets} {G : Ghost} {t : ℕ} (F : ℕ → ℕ) (K : ℕ → Bool) (Z : ℕ → ℕ) → Books g G t
+    → Books g (refenced G F K Z) t
 refence-books F K Z b =
     record { low = b .low; least = b .least; most = b .most; known = b .known; past = b .past; empty = b .empty; last = b .last }
 
 pub queued-map :
-    {g h : Tickets} {G H : Ghost} {q next : ℕ} → Queued g G q next → h .latest q ≡ g .latest q → H .gone ≤ g .latest q → g .count ≤ h .count
+    {g h : Tickets} {G H : Ghost} {q next : ℕ} → Queued g G q next → h .latest q ≡ g .latest q → H .gone ≤ g .latest q
+    → g .count ≤ h .count
     → ((i : ℕ) → i < g .count → H .who i ≡ G .who i)
     → ((i : ℕ) → i < g .count → G .linked i ≡ true → H .linked i ≡ true)
     → Queued h H q next
@@ -97,10 +96,16 @@ module _ (g : Tickets) (G : Ghost) (a u : ℕ) (W : ℕ → Bool) (r : ℕ) (mor
   pass rel q next succ heir k d =
       let w = k .rels d in
       record { away = λ x y z. d .away (omega arith) y z; handing = w .0; only = w .1; front = w .2 }
-  pass lag q next succ heir k d = record { away = λ x y z. d .away (omega arith) y z; fenced = d .fenced; parked = d .parked }
+  pass lag q next succ heir k d = record {
+    away = λ x y z. d .away
+        (omega arith) y z;
+    fenced = d .fenced;
+    parked = d .parked;
+  }
 
   pub pass-fit :
-      {e q : ℕ} {st : Stage} {l next pred succ nx : ℕ} {guard : Bool} → Asks g G a u W r q next (pick (isLifting st) nx succ)
+      {e q : ℕ} {st : Stage} {l next pred succ nx : ℕ} {guard : Bool}
+      → Asks g G a u W r q next (pick (isLifting st) nx succ)
       → Fit e g G q st l next pred succ nx guard → Fit e g (passed G a u W r) q st l next pred succ nx guard
   pass-fit {q = q} {st = st} {l = l} {next = next} {succ = succ} {nx = nx} k f =
       record {
@@ -117,12 +122,14 @@ module _ (g : Tickets) (G : Ghost) (a u : ℕ) (W : ℕ → Bool) (r : ℕ) (mor
       }
 
 requeue :
-    {g : Tickets} {G : Ghost} {F : ℕ → ℕ} {K : ℕ → Bool} {Z : ℕ → ℕ} {q next : ℕ} → Queued g G q next → Queued g (refenced G F K Z) q next
+    {g : Tickets} {G : Ghost} {F : ℕ → ℕ} {K : ℕ → Bool} {Z : ℕ → ℕ} {q next : ℕ} → Queued g G q next
+    → Queued g (refenced G F K Z) q next
 requeue v = queued-map v refl (v .low) (omega arith) (λ i b. refl) (λ i b h. h)
 
 -- a row of which the fences say the same
 pub fenced-same :
-    (G : Ghost) (F : ℕ → ℕ) (K : ℕ → Bool) (Z : ℕ → ℕ) (q l next : ℕ) (guard : Bool) → F q ≡ G .fencer q → K q ≡ G .lagged q
+    (G : Ghost) (F : ℕ → ℕ) (K : ℕ → Bool) (Z : ℕ → ℕ) (q l next : ℕ) (guard : Bool) → F q ≡ G .fencer q
+    → K q ≡ G .lagged q
     → Z q ≡ G .peeked q → (G .fencer q ≢ 0 → Fenced (G .lagged q) (G .peeked q) l next guard) → F q ≢ 0
     → Fenced (K q) (Z q) l next guard
 fenced-same G F K Z q l next guard f k z w d =
@@ -135,7 +142,8 @@ manned-same s m k = (m k .0, λ n. m k .1 (sym s ∙ n))
 
 -- a row whose fencing stays, when fences change elsewhere
 pub fencing-map :
-    (b : Bool) (F E : ℕ → ℕ) (q succ : ℕ) → (b ≡ true → F succ ≡ suc q → E succ ≡ suc q) → ((x : ℕ) → E x ≡ suc q → F x ≡ suc q)
+    (b : Bool) (F E : ℕ → ℕ) (q succ : ℕ) → (b ≡ true → F succ ≡ suc q → E succ ≡ suc q)
+    → ((x : ℕ) → E x ≡ suc q → F x ≡ suc q)
     → Fencing b F q succ → Fencing b E q succ
 fencing-map true F E q succ on back w = (on refl (w .0), w .1, λ x k. w .2 x (back x k))
 fencing-map false F E q succ on back w = λ x k. w x (back x k)
@@ -143,7 +151,8 @@ fencing-map false F E q succ on back w = λ x k. w x (back x k)
 module _ (g : Tickets) (G : Ghost) (F : ℕ → ℕ) (K : ℕ → Bool) (Z : ℕ → ℕ) where
   -- a role's duty under other fences: only who lags looks at them
   pub refence :
-      (ρ : Role) (q next succ heir : ℕ) → (Lag g G q succ → (F succ ≡ suc q) × (K succ ≡ true)) → Duty ρ g G q next succ heir
+      (ρ : Role) (q next succ heir : ℕ) → (Lag g G q succ → (F succ ≡ suc q) × (K succ ≡ true))
+      → Duty ρ g G q next succ heir
       → Duty ρ g (refenced G F K Z) q next succ heir
   refence out q next succ heir la d = d
   refence raw q next succ heir la d =
@@ -160,7 +169,8 @@ module _ (g : Tickets) (G : Ghost) (F : ℕ → ℕ) (K : ℕ → Bool) (Z : ℕ
   refence lag q next succ heir la d = let w = la d in record { away = d .away; fenced = w .0; parked = w .1 }
 
   pub refence-fit :
-      {e q : ℕ} {st : Stage} {l next pred succ nx : ℕ} {guard old : Bool} → (Lag g G q succ → (F succ ≡ suc q) × (K succ ≡ true))
+      {e q : ℕ} {st : Stage} {l next pred succ nx : ℕ} {guard old : Bool}
+      → (Lag g G q succ → (F succ ≡ suc q) × (K succ ≡ true))
       → (Fencing (fences st) (G .fencer) q succ → Fencing (fences st) F q succ)
       → (isTaking st ≡ true → (G .peeked succ ≡ nx) × (nx ≢ none) → (Z succ ≡ nx) × (nx ≢ none))
       → (guard ≡ true → isOpen st ≡ true)

@@ -1,6 +1,6 @@
--- Place 18: the heir's guard is set before the lock is parked on it. Nobody fences the heir yet: another who hands on there is
--- not, and who lags on a row finds its locked Released or R_P, but the heir waits.
-use Prim.Native.Nat.{ℕ, suc, _<_, _≤_}
+-- Place 18: the heir's guard is set before the lock is parked on it. Nobody fences the heir yet: another who hands on
+-- there is not, and who lags on a row finds its locked Released or R_P, but the heir waits.
+use Prim.Native.Nat.{ℕ, suc, _<_}
 use mathlib.Core.Path.{_≡_, refl, sym, ap, _∙_}
 use mathlib.Core.Bool.{Bool, true, false}
 use mathlib.Core.Logic.{_≢_, ⊎-elim}
@@ -12,15 +12,17 @@ use Rattle.lock.specs.declared.LockState.{LockState}
 use Rattle.lock.specs.State.{none, isNone, withGuard, withPlace, row, putRow, putGuard, to}
 use Rattle.lock.specs.Sound.{sound}
 use Rattle.lock.specs.Acts as Acts
+use Rattle.lock.proofs.Order.Choices.{clash}
 use Rattle.lock.proofs.Order.Tickets.{Tickets}
 use Rattle.lock.proofs.Order.Calls.{sound-plain}
 use Rattle.lock.proofs.Order.Writes.{by-same, both-start, both-own, both-near}
-use Rattle.lock.proofs.Order.Stages.{Stage, fencing, stageAt}
+use Rattle.lock.proofs.Order.Stages.{fencing, stageAt}
 use Rattle.lock.proofs.Order.Roles.{rel, lag, fences, isOpen, isLeft, wait-open, wait-stays, fences-kind, taking-lag, plain-fencing}
-use Rattle.lock.proofs.Order.Statement.{Ghost, upd, upd-same, upd-other, upd-back, Rel, Lag, Fencing, Fenced, Fit, FitRow, Holds}
-use Rattle.lock.proofs.Order.Carry.{clash, refenced, refence-books, fenced-same, manned-same, fencing-map, refence, refence-fit}
+use Rattle.lock.proofs.Order.Statement.{Ghost, upd, upd-same, upd-other, upd-back, Rel, Lag, Fenced, Fit, FitRow, Holds}
+use Rattle.lock.proofs.Order.Carry.{refenced, refence-books, fenced-same, manned-same, fencing-map, refence, refence-fit}
 use Rattle.lock.proofs.Order.Near.{duty-as, Heir, heir-waits}
-use Rattle.lock.proofs.Order.Quiet.{both-holds, mine}
+use Rattle.lock.proofs.Order.Build.{both-holds}
+use Rattle.lock.proofs.Order.Quiet.{mine}
 
 module _ (s : LockState) (g : Tickets) (p : ℕ) (v : Holds s g) (room : p < length (s .rows)) (e : stageAt ((row s p) .place) ≡ fencing) where
   abbrev R : Row
@@ -66,7 +68,8 @@ module _ (s : LockState) (g : Tickets) (p : ℕ) (v : Holds s g) (room : p < len
   no-fence : (q : ℕ) → q ≢ p → fences (stageAt ((row s q) .place)) ≡ true → (row s q) .succ ≢ y
   no-fence q a k =
       let r = row s q in
-      ⊎-elim (λ o u. a ((duty-as s g v q {ρ = rel} o) .only ∙ sym (d .only))) (λ o. no-lag q (duty-as s g v q {ρ = lag} o))
+      ⊎-elim (λ o u. a ((duty-as s g v q {ρ = rel} o) .only ∙ sym (d .only)))
+      (λ o. no-lag q (duty-as s g v q {ρ = lag} o))
       (fences-kind (stageAt (r .place)) (r .locked) (isNone (r .nx)) ((v .fits q) .small) k)
 
   -- whoever is not p, with its guard as it is now
@@ -80,8 +83,11 @@ module _ (s : LockState) (g : Tickets) (p : ℕ) (v : Holds s g) (room : p < len
       let st = stageAt (r .place) in
       refence-fit g G F K Z
       (λ k.
-      let ne : r .succ ≢ y = no-lag q k in
-      (upd-other (G .fencer) y (suc p) (r .succ) ne ∙ k .fenced, upd-other (G .lagged) y false (r .succ) ne ∙ k .parked))
+      let ne : r .succ ≢ y = no-lag q k in (
+        upd-other (G .fencer) y (suc p) (r .succ) ne ∙ k .fenced,
+        upd-other (G .lagged) y false (r .succ) ne
+            ∙ k .parked,
+      ))
       (fencing-map (fences st) (G .fencer) F q (r .succ)
       (λ b k. upd-other (G .fencer) y (suc p) (r .succ) (no-fence q a b) ∙ k)
       (λ x k. upd-back (G .fencer) y (suc p) (suc q) x (λ z. a (omega arith)) k))
@@ -119,7 +125,8 @@ module _ (s : LockState) (g : Tickets) (p : ℕ) (v : Holds s g) (room : p < len
   unfolding Acts.fence to putGuard putRow
   fence-holds fit =
       both-holds v (refenced G F K Z)
-      (both-own (λ r. withPlace r 19) (both-near (λ r. withGuard r true) (both-start s p y (heir .apart) room (heir .near)))) refl
+      (both-own (λ r. withPlace r 19)
+      (both-near (λ r. withGuard r true) (both-start s p y (heir .apart) room (heir .near)))) refl
       (refence-books F K Z (v .books)) own
       (other y (λ k. heir .apart (sym k)) true
       (λ k. wait-open (stageAt (Y .place)) (Y .locked) (isNone (Y .nx)) ((v .fits y) .small) (heir .waiting))
@@ -135,6 +142,7 @@ module _ (s : LockState) (g : Tickets) (p : ℕ) (v : Holds s g) (room : p < len
       )))
       (λ q a b.
       other q a ((row s q) .guard) ((v .fits q) .shut)
-      (fenced-same G F K Z q ((row s q) .locked) ((row s q) .next) ((row s q) .guard) (upd-other (G .fencer) y (suc p) q b)
+      (fenced-same G F K Z q ((row s q) .locked) ((row s q) .next) ((row s q) .guard)
+      (upd-other (G .fencer) y (suc p) q b)
       (upd-other (G .lagged) y false q b) (upd-other (G .peeked) y none q b) ((v .fits q) .fenced))
       (manned-same (upd-other (G .fencer) y (suc p) q b) ((v .fits q) .manned)))

@@ -1,27 +1,29 @@
 -- Places 17 and 19: the lock is handed to the heir, or parked on it. Both serve the heir: it has the lock from then on.
-use Prim.Native.Nat.{ℕ, suc, _<_, _≤_}
-use mathlib.Core.Path.{_≡_, refl, sym, ap, subst, _∙_}
-use mathlib.Core.Bool.{Bool, true, false, not}
-use mathlib.Core.Logic.{_≢_, ⊎-elim}
+use Prim.Native.Nat.{ℕ, suc, _<_}
+use mathlib.Core.Path.{_≡_, refl, sym, subst, _∙_}
+use mathlib.Core.Bool.{true, false}
+use mathlib.Core.Logic.{_≢_}
 use native.Mathlib.Omega.{arith}
-use lib.Dec.{eqb, leb}
+use lib.Dec.{eqb}
 use lib.ListN.{length}
-use borrow.Author.Tests.{eqb-true, eqb-false, ne-eqb, eq-eqb, not-true}
+use borrow.Author.Tests.{eqb-true, ne-eqb}
 use Rattle.lock.specs.declared.Row.{Row}
 use Rattle.lock.specs.declared.LockState.{LockState}
 use Rattle.lock.specs.Choice.{pick}
-use Rattle.lock.specs.State.{none, isNone, isPlain, isDrawn, Released, Locked, Preempted, RP, withLocked, withGuard, withPlace, withNx, row, putRow, putLocked, putGuard, to, putNx}
+use Rattle.lock.specs.State.{none, isNone, isPlain, isDrawn, Released, Locked, Preempted, RP, withLocked, withPlace, withNx, row, putRow, putLocked, to, putNx}
 use Rattle.lock.specs.Sound.{sound}
 use Rattle.lock.specs.Acts as Acts
+use Rattle.lock.proofs.Order.Choices.{clash, by-test}
 use Rattle.lock.proofs.Order.Tickets.{Tickets}
 use Rattle.lock.proofs.Order.Calls.{sound-plain}
-use Rattle.lock.proofs.Order.Writes.{by-same, Own, own-start, own-put, Both, both-start, both-own, both-near}
-use Rattle.lock.proofs.Order.Stages.{Stage, handing, fencing, parking, stageAt}
-use Rattle.lock.proofs.Order.Roles.{Role, wait, tok, rel, lag, role, settled, fences, isTaking, isLifting, isLeft, preempted-tok, preempted-settled, wait-tok, wait-open, wait-stays, wait-fences, fences-kind, taking-lag, plain-fencing, plain-wait}
-use Rattle.lock.proofs.Order.Statement.{Ghost, upd, upd-same, upd-other, Books, Linked, Queued, Away, Raw, Wait, Tok, Rel, Lag, Duty, Fencing, Fenced, Fit, FitRow, Holds}
-use Rattle.lock.proofs.Order.Carry.{clash, passed, refenced, refence-books, queued-map, Asks, pass-fit, fenced-same, refence, refence-fit}
-use Rattle.lock.proofs.Order.Near.{same-join, roleRow, duty-as, there-some, Heir, heir-waits}
-use Rattle.lock.proofs.Order.Quiet.{own-holds, both-holds, quiet, by-test, free-fit, relock, ordered-drawn, mine, go}
+use Rattle.lock.proofs.Order.Writes.{by-same, own-start, own-put, both-start, both-own, both-near}
+use Rattle.lock.proofs.Order.Stages.{handing, fencing, parking, stageAt}
+use Rattle.lock.proofs.Order.Roles.{wait, tok, role, settled, isLifting, preempted-tok, preempted-settled, wait-tok, plain-wait}
+use Rattle.lock.proofs.Order.Statement.{Ghost, upd, upd-same, upd-other, Books, Tok, Rel, Fencing, Fit, Holds}
+use Rattle.lock.proofs.Order.Carry.{passed, refenced, refence-books, queued-map, Asks, pass-fit, fenced-same, refence, refence-fit}
+use Rattle.lock.proofs.Order.Near.{same-join, there-some, heir-waits}
+use Rattle.lock.proofs.Order.Build.{both-holds, quiet, free-fit, relock}
+use Rattle.lock.proofs.Order.Quiet.{ordered-drawn, mine, go}
 
 module _ (s : LockState) (g : Tickets) (p : ℕ) (v : Holds s g) (room : p < length (s .rows)) where
   abbrev R : Row
@@ -41,7 +43,8 @@ module _ (s : LockState) (g : Tickets) (p : ℕ) (v : Holds s g) (room : p < len
   H = passed G (G .gone) (suc (G .gone)) (G .linked) (G .releaser)
 
   serve-asks :
-      Rel g G p y → (q next heir : ℕ) → q ≢ p → q ≢ y → Asks g G (G .gone) (suc (G .gone)) (G .linked) (G .releaser) q next heir
+      Rel g G p y → (q next heir : ℕ) → q ≢ p → q ≢ y
+      → Asks g G (G .gone) (suc (G .gone)) (G .linked) (G .releaser) q next heir
   serve-asks d q next heir a b =
       let z = heir-waits s g v p y d in
       let h = d .handing in
@@ -87,9 +90,11 @@ module _ (s : LockState) (g : Tickets) (p : ℕ) (v : Holds s g) (room : p < len
       let st = stageAt (Y .place) in
       let x = isNone (Y .nx) in
       let fy = v .fits y in
-      let w = wait-tok st x (subst (λ (l : ℕ). role st l x ≡ wait) h (z .waiting)) (subst (λ (l : ℕ). settled st l ≡ true) h (fy .settles)) in
+      let w = wait-tok st x (subst (λ (l : ℕ). role st l x ≡ wait) h (z .waiting))
+      (subst (λ (l : ℕ). settled st l ≡ true) h (fy .settles)) in
       both-holds v H
-      (both-own (λ r. withPlace r 0) (both-near (λ r. withLocked r Released) (both-start s p y (z .apart) room (z .near)))) refl
+      (both-own (λ r. withPlace r 0) (both-near (λ r. withLocked r Released)
+      (both-start s p y (z .apart) room (z .near)))) refl
       (serve-books d) (free-fit refl (f .small) (f .settles) (d .away) (f .fenced) (f .manned) (f .fencing))
       (record {
         small = refl;
@@ -105,7 +110,8 @@ module _ (s : LockState) (g : Tickets) (p : ℕ) (v : Holds s g) (room : p < len
       })
       (λ q a b.
       pass-fit g G (G .gone) (suc (G .gone)) (G .linked) (G .releaser) (omega arith) (λ i k. k)
-      (serve-asks d q ((row s q) .next) (pick (isLifting (stageAt ((row s q) .place))) ((row s q) .nx) ((row s q) .succ)) a b)
+      (serve-asks d q ((row s q) .next)
+      (pick (isLifting (stageAt ((row s q) .place))) ((row s q) .nx) ((row s q) .succ)) a b)
       (v .fits q))
 
   pub hand-holds : sound s ≡ true → stageAt (R .place) ≡ handing → Holds (Acts.hand s p) g
@@ -114,7 +120,8 @@ module _ (s : LockState) (g : Tickets) (p : ℕ) (v : Holds s g) (room : p < len
       by-test (λ t. Holds t g) (isPlain (s .edition)) (λ h. handed e (plain h))
       (λ h.
       by-test (λ t. Holds t g) (eqb (Y .locked) Locked) (λ b. handed e (eqb-true (Y .locked) 1 b))
-      (λ b. rw (ordered-drawn (s .edition) (v .ordered)) (go s g p v room 18 (free-fit refl (f .small) (f .settles) (f .duty) (f .fenced) (f .manned) (f .fencing)))))
+      (λ b. rw (ordered-drawn (s .edition) (v .ordered))
+      (go s g p v room 18 (free-fit refl (f .small) (f .settles) (f .duty) (f .fenced) (f .manned) (f .fencing)))))
     where
       f : Fit (s .edition) g G p handing (R .locked) (R .next) (R .pred) (R .succ) (R .nx) (R .guard)
       f = mine s g p v room e
@@ -142,7 +149,8 @@ module _ (s : LockState) (g : Tickets) (p : ℕ) (v : Holds s g) (room : p < len
       let K = upd (G .lagged) y true in
       let same : (q : ℕ) → q ≢ y → K q ≡ G .lagged q = λ q b. upd-other (G .lagged) y true q b in
       both-holds v (refenced H (G .fencer) K (G .peeked))
-      (both-own (λ r. withPlace r 20) (both-near (λ r. withLocked r RP) (both-start s p y (z .apart) room (z .near)))) refl
+      (both-own (λ r. withPlace r 20)
+      (both-near (λ r. withLocked r RP) (both-start s p y (z .apart) room (z .near)))) refl
       (refence-books (G .fencer) K (G .peeked) (serve-books d))
       (record {
         small = f .small;
@@ -153,7 +161,8 @@ module _ (s : LockState) (g : Tickets) (p : ℕ) (v : Holds s g) (room : p < len
         fencing = on;
         peeking = tt;
         shut = λ k. refl;
-        fenced = fenced-same H (G .fencer) K (G .peeked) p (R .locked) (R .next) (R .guard) refl (same p (z .apart)) refl (f .fenced);
+        fenced = fenced-same H (G .fencer) K (G .peeked) p (R .locked) (R .next) (R .guard) refl
+            (same p (z .apart)) refl (f .fenced);
         manned = f .manned;
       })
       (record {
@@ -173,8 +182,10 @@ module _ (s : LockState) (g : Tickets) (p : ℕ) (v : Holds s g) (room : p < len
       })
       (λ q a b.
       let r = row s q in
-      refence-fit g H (G .fencer) K (G .peeked) (λ k. (k .fenced, more (r .succ) (k .parked))) (λ w. w) (λ k w. w) ((v .fits q) .shut)
-      (fenced-same H (G .fencer) K (G .peeked) q (r .locked) (r .next) (r .guard) refl (same q b) refl ((v .fits q) .fenced)) ((v .fits q) .manned)
+      refence-fit g H (G .fencer) K (G .peeked) (λ k. (k .fenced, more (r .succ) (k .parked))) (λ w. w) (λ k w. w)
+      ((v .fits q) .shut)
+      (fenced-same H (G .fencer) K (G .peeked) q (r .locked) (r .next) (r .guard) refl (same q b) refl
+      ((v .fits q) .fenced)) ((v .fits q) .manned)
       (pass-fit g G (G .gone) (suc (G .gone)) (G .linked) (G .releaser) (omega arith) (λ i k. k)
       (serve-asks d q (r .next) (pick (isLifting (stageAt (r .place))) (r .nx) (r .succ)) a b) (v .fits q)))
     where

@@ -1,10 +1,10 @@
--- The invariant behind demand 3, put together. Statement says what it is; the acts' files show that each act keeps it; here it
--- holds in the fresh state, after every call, and says who enters first.
+-- The invariant behind demand 3, put together. Statement says what it is; the acts' files show that each act keeps
+-- it; here it holds in the fresh state, after every call, and says who enters first.
 --     inv-fresh        the fresh state of an ordered edition meets it
 --     inv-after        every call keeps it, refused ones too
 --     inv-entry        who enters has the earliest latest join of all in the queue
 --     inv-ticket       who is in the queue has a number that was given out
-use Prim.Native.Nat.{ℕ, suc, _<_, _≤_}
+use Prim.Native.Nat.{ℕ, _<_, _≤_}
 use mathlib.Core.Path.{_≡_, refl, sym, ap, _∙_}
 use mathlib.Core.Bool.{Bool, true, false, not}
 use mathlib.Core.Logic.{_≢_}
@@ -12,23 +12,23 @@ use native.Mathlib.Omega.{arith}
 use lib.Dec.{eqb}
 use lib.ListN.{length}
 use borrow.Author.Tests.{eqb-true}
-use Rattle.lock.specs.declared.Row.{Row}
 use Rattle.lock.specs.declared.LockState.{LockState}
 use Rattle.lock.specs.Choice.{pick}
-use Rattle.lock.specs.State.{processors, none, isNone, freshRow, freshState, row, withFlag, putRow, putFlag}
+use Rattle.lock.specs.State.{processors, none, isNone, freshState, row, withFlag, putRow, putFlag}
 use Rattle.lock.specs.Sound.{sound}
 use Rattle.lock.specs.Table.{Place, placeAt, act, stepped, rest, gate, clear, swap, arm, link, claim, spin, settle, inside, poll, service, back, regain, look, close, await, hand, fence, park, peek, take, lift, nowhere}
 use Rattle.lock.specs.Event.{raised}
 use Rattle.lock.specs.Run.{Call, after, enters, stepsOf}
+use Rattle.lock.proofs.Order.Choices.{clash, and-right}
 use Rattle.lock.proofs.Order.Tickets.{Tickets, noTickets, ticketed, member, isMember, isOrdered}
-use Rattle.lock.proofs.Order.Calls.{joined, stepTickets, by-call, and-right, sound-bounds}
+use Rattle.lock.proofs.Order.Calls.{stepTickets, by-call, sound-bounds}
 use Rattle.lock.proofs.Order.Writes.{own-start, own-put, fresh-row}
 use Rattle.lock.proofs.Order.Stages.{Stage, swapping, holding, stageOf, stageAt}
 use Rattle.lock.proofs.Order.Roles.{Role, out, raw, wait, tok, rel, lag, role, isSwapping, isQueued, isLifting, swap-place}
-use Rattle.lock.proofs.Order.Statement.{Ghost, Books, Queued, Tok, Duty, Fit, Holds}
-use Rattle.lock.proofs.Order.Carry.{clash}
+use Rattle.lock.proofs.Order.Statement.{Ghost, Queued, Tok, Duty, Fit, Holds}
 use Rattle.lock.proofs.Order.Near.{same-join, served-first}
-use Rattle.lock.proofs.Order.Quiet.{quiet, free-fit, rest-holds, gate-holds, clear-holds, arm-holds, spin-holds, settle-holds, inside-holds, poll-holds, service-holds, back-holds, regain-holds}
+use Rattle.lock.proofs.Order.Build.{quiet, free-fit}
+use Rattle.lock.proofs.Order.Quiet.{rest-holds, gate-holds, clear-holds, arm-holds, spin-holds, settle-holds, inside-holds, poll-holds, service-holds, back-holds, regain-holds}
 use Rattle.lock.proofs.Order.Join.{swap-holds}
 use Rattle.lock.proofs.Order.Link.{link-holds, claim-holds}
 use Rattle.lock.proofs.Order.Leave.{look-holds, await-holds, close-holds}
@@ -70,7 +70,9 @@ inv-fresh e n ordered some many =
             empty = λ z. refl;
             last = λ z. absurd (z refl);
           };
-      fits = λ q. rw (fresh-row e n q) (free-fit refl refl refl (λ a b c. omega arith) (λ z. absurd (z refl)) (λ z. clash z refl) (λ x z. omega arith));
+      fits = λ q. rw (fresh-row e n q)
+          (free-fit refl refl refl (λ a b c. omega arith) (λ z. absurd (z refl)) (λ z. clash z refl)
+          (λ x z. omega arith));
     }
 
 -- no other place than 3 is a join
@@ -86,7 +88,9 @@ no-join k {a} e h = by-test (eqb k 3) refl
 -- the act of each place
 module _ (s : LockState) (g : Tickets) (p : ℕ) (v : Holds s g) (room : p < length (s .rows)) (fit : sound s ≡ true) where
   -- a step that is no join leaves the tickets
-  still : {k : Place} {t : LockState} → placeAt ((row s p) .place) ≡ k → isSwapping (stageOf k) ≡ false → Holds t g → Holds t (stepTickets s g p)
+  still :
+      {k : Place} {t : LockState} → placeAt ((row s p) .place) ≡ k → isSwapping (stageOf k) ≡ false → Holds t g
+      → Holds t (stepTickets s g p)
   still e h w = rw (no-join ((row s p) .place) (ap stageOf e) h) w
 
   acts : (k : Place) → placeAt ((row s p) .place) ≡ k → Holds (act k s p) (stepTickets s g p)
@@ -167,7 +171,9 @@ member-role lift l x e = clash e refl
 member-role nowhere l x e = e
 
 -- who has a queued role is in the queue
-in-queue : {g : Tickets} {G : Ghost} (ρ : Role) (q next succ heir : ℕ) → isQueued ρ ≡ true → Duty ρ g G q next succ heir → Queued g G q next
+in-queue :
+    {g : Tickets} {G : Ghost} (ρ : Role) (q next succ heir : ℕ) → isQueued ρ ≡ true → Duty ρ g G q next succ heir
+    → Queued g G q next
 in-queue out q next succ heir e d = clash e refl
 in-queue raw q next succ heir e d = d .queued
 in-queue wait q next succ heir e d = d .queued
@@ -175,12 +181,15 @@ in-queue tok q next succ heir e d = d .queued
 in-queue rel q next succ heir e d = clash e refl
 in-queue lag q next succ heir e d = clash e refl
 
-member-queued : (s : LockState) (g : Tickets) (q : ℕ) (v : Holds s g) → isMember s q ≡ true → Queued g (v .ghost) q ((row s q) .next)
+member-queued :
+    (s : LockState) (g : Tickets) (q : ℕ) (v : Holds s g) → isMember s q ≡ true
+    → Queued g (v .ghost) q ((row s q) .next)
 unfolding isMember
 member-queued s g q v m =
     let r = row s q in
     in-queue (role (stageAt (r .place)) (r .locked) (isNone (r .nx))) q (r .next) (r .succ)
-    (pick (isLifting (stageAt (r .place))) (r .nx) (r .succ)) (member-role (placeAt (r .place)) (r .locked) (isNone (r .nx)) m)
+    (pick (isLifting (stageAt (r .place))) (r .nx) (r .succ))
+    (member-role (placeAt (r .place)) (r .locked) (isNone (r .nx)) m)
     ((v .fits q) .duty)
 
 -- who is inside has the earliest number of all in the queue

@@ -1,9 +1,9 @@
--- The join, place 3: the next number goes to p. With no tail the queue was empty and p is served at once; otherwise p stands raw
--- behind the tail, which its pred names.
+-- The join, place 3: the next number goes to p. With no tail the queue was empty and p is served at once; otherwise p
+-- stands raw behind the tail, which its pred names.
 --     join-fit         what is said of every other row stays
 --     swap-holds       the act
 use Prim.Native.Nat.{ℕ, suc, _<_, _≤_}
-use mathlib.Core.Path.{_≡_, refl, sym, ap, subst, _∙_}
+use mathlib.Core.Path.{_≡_, refl, sym, ap, _∙_}
 use mathlib.Core.Bool.{Bool, true, false}
 use mathlib.Core.Logic.{_≢_}
 use native.Mathlib.Omega.{arith}
@@ -17,12 +17,13 @@ use Rattle.lock.specs.State.{none, isNone, withPlace, withPred, row, put
 use Rattle.lock.specs.Acts as Acts
 use Rattle.lock.proofs.Order.Tickets.{Tickets}
 use Rattle.lock.proofs.Order.Calls.{joined}
-use Rattle.lock.proofs.Order.Writes.{Own, own-start, own-put, own-tail, by-same}
+use Rattle.lock.proofs.Order.Writes.{own-start, own-put, own-tail, by-same}
 use Rattle.lock.proofs.Order.Stages.{Stage, swapping, stageAt}
 use Rattle.lock.proofs.Order.Roles.{Role, out, raw, wait, tok, rel, lag, role, joining, isLifting}
-use Rattle.lock.proofs.Order.Statement.{Ghost, upd, upd-same, upd-other, Books, Linked, Queued, Away, Raw, Wait, Tok, Rel, Lag, Duty, given-map, Fit, FitRow, Holds}
-use Rattle.lock.proofs.Order.Carry.{clash, moved, queued-map}
-use Rattle.lock.proofs.Order.Quiet.{own-holds, free-fit, mine}
+use Rattle.lock.proofs.Order.Statement.{Ghost, upd, upd-same, upd-other, Books, Queued, Away, Duty, given-map, Fit, Holds}
+use Rattle.lock.proofs.Order.Carry.{moved, queued-map}
+use Rattle.lock.proofs.Order.Build.{own-holds, free-fit}
+use Rattle.lock.proofs.Order.Quiet.{mine}
 
 -- the ghost after p's join, u served
 abbrev entered : Tickets → Ghost → (p u : ℕ) → Ghost
@@ -137,7 +138,8 @@ module _ (s : LockState) (g : Tickets) (p : ℕ) (v : Holds s g) (room : p < len
       away (rw m a) (rw m b) (ap (v .ghost .who) m ∙ e)
 
   join-books :
-      (u : ℕ) → Away g (v .ghost) p → v .ghost .gone ≤ u → u ≤ suc (v .ghost .gone) → Books (joined g p) (entered g (v .ghost) p u) p
+      (u : ℕ) → Away g (v .ghost) p → v .ghost .gone ≤ u → u ≤ suc (v .ghost .gone)
+      → Books (joined g p) (entered g (v .ghost) p u) p
   join-books u away least most =
       let G = v .ghost in
       let b = v .books in
@@ -147,7 +149,8 @@ module _ (s : LockState) (g : Tickets) (p : ℕ) (v : Holds s g) (room : p < len
         most = most;
         known =
             λ i x y.
-            by-same (λ i. G .gone ≤ i → i < suc (g .count) → (joined g p) .latest (entered g G p u .who i) ≡ i) (g .count)
+            by-same (λ i. G .gone ≤ i → i < suc (g .count) → (joined g p) .latest (entered g G p u .who i) ≡ i)
+            (g .count)
             (λ x y. ap ((joined g p) .latest) (upd-same (G .who) (g .count) p) ∙ upd-same (g .latest) p (g .count))
             (λ i d x y.
             let c : i < g .count = omega arith in
@@ -155,7 +158,8 @@ module _ (s : LockState) (g : Tickets) (p : ℕ) (v : Holds s g) (room : p < len
             ∙ upd-other (g .latest) p (g .count) (G .who i) (made-by-another away i x c) ∙ b .known i x c)
             i x y;
         past =
-            by-same (λ q. (joined g p) .latest q ≤ suc (g .count)) p (rw (upd-same (g .latest) p (g .count)) (omega arith))
+            by-same (λ q. (joined g p) .latest q ≤ suc (g .count)) p
+            (rw (upd-same (g .latest) p (g .count)) (omega arith))
             (λ q d. rw (upd-other (g .latest) p (g .count) q d) (let l = b .past q in omega arith));
         empty = λ e. absurd (there e);
         last =
@@ -195,7 +199,8 @@ module _ (s : LockState) (g : Tickets) (p : ℕ) (v : Holds s g) (room : p < len
       me : (joined g p) .latest p ≡ g .count
       me = upd-same (g .latest) p (g .count)
 
-      by-tail : (b : Bool) → isNone (s .tail) ≡ b → Holds (to (putTail (putPred s p (s .tail)) p) p (pick b 9 4)) (joined g p)
+      by-tail :
+          (b : Bool) → isNone (s .tail) ≡ b → Holds (to (putTail (putPred s p (s .tail)) p) p (pick b 9 4)) (joined g p)
       by-tail true t =
           let u = suc (g .count) in
           let empty : G .gone ≡ g .count = v .books .empty (eqb-true (s .tail) none t) in
@@ -203,7 +208,8 @@ module _ (s : LockState) (g : Tickets) (p : ℕ) (v : Holds s g) (room : p < len
           (own-put (λ r. withPlace r 9) (own-tail p (own-put (λ r. withPred r (s .tail)) (own-start s p room)))) refl
           (join-books u (f .duty) (omega arith) (omega arith))
           (free-fit refl (f .small) (f .settles)
-          (record { queued = join-queued u (r .next) (v .books .low) (f .blank); first = rw me (omega arith) }) (f .fenced) (f .manned) (f .fencing))
+          (record { queued = join-queued u (r .next) (v .books .low) (f .blank); first = rw me (omega arith) })
+          (f .fenced) (f .manned) (f .fencing))
           (λ q d. join-fit g G p u (v .books .past) (λ z. absurd (omega arith)) q d (v .fits q))
       by-tail false t =
           let u = G .served in

@@ -1,9 +1,8 @@
--- Places 14 to 16: who has the lock goes from the front of the queue, either with a next to hand the lock on to, or closing the
--- queue behind it.
-use Prim.Native.Nat.{ℕ, suc, _<_, _≤_}
+-- Places 14 to 16: who has the lock goes from the front of the queue, either with a next to hand the lock on to, or
+-- closing the queue behind it.
+use Prim.Native.Nat.{ℕ, suc, _<_}
 use mathlib.Core.Path.{_≡_, refl, sym, ap, _∙_}
-use mathlib.Core.Bool.{Bool, true, false}
-use mathlib.Core.Logic.{_≢_}
+use mathlib.Core.Bool.{true, false}
 use native.Mathlib.Omega.{arith}
 use lib.Dec.{eqb}
 use lib.ListN.{length}
@@ -12,13 +11,15 @@ use Rattle.lock.specs.declared.Row.{Row}
 use Rattle.lock.specs.declared.LockState.{LockState}
 use Rattle.lock.specs.State.{none, isNone, withPlace, withSucc, row, putRow, putTail, to, putSucc}
 use Rattle.lock.specs.Acts as Acts
+use Rattle.lock.proofs.Order.Choices.{clash, by-test}
 use Rattle.lock.proofs.Order.Tickets.{Tickets}
-use Rattle.lock.proofs.Order.Writes.{Own, own-start, own-put, own-tail}
-use Rattle.lock.proofs.Order.Stages.{Stage, holding, stageAt}
-use Rattle.lock.proofs.Order.Statement.{Ghost, Books, Linked, Queued, Raw, Wait, Tok, Rel, Fit, Holds}
-use Rattle.lock.proofs.Order.Carry.{clash, passed, pass-fit}
+use Rattle.lock.proofs.Order.Writes.{own-start, own-put, own-tail}
+use Rattle.lock.proofs.Order.Stages.{holding, stageAt}
+use Rattle.lock.proofs.Order.Statement.{Ghost, Holds}
+use Rattle.lock.proofs.Order.Carry.{passed, pass-fit}
 use Rattle.lock.proofs.Order.Near.{before, served-first, pop-asks, there-some}
-use Rattle.lock.proofs.Order.Quiet.{own-holds, by-test, free-fit, mine, go}
+use Rattle.lock.proofs.Order.Build.{own-holds, free-fit}
+use Rattle.lock.proofs.Order.Quiet.{mine, go}
 
 module _ (s : LockState) (g : Tickets) (p : ℕ) (v : Holds s g) (room : p < length (s .rows)) where
   abbrev R : Row
@@ -65,7 +66,8 @@ module _ (s : LockState) (g : Tickets) (p : ℕ) (v : Holds s g) (room : p < len
 
   pub look-holds : stageAt (R .place) ≡ holding → Holds (Acts.look s p) g
   unfolding Acts.look
-  look-holds e = by-test (λ t. Holds t g) (isNone (R .next)) (λ h. go s g p v room 15 (mine s g p v room e)) (λ h. to-hand e h)
+  look-holds e = by-test (λ t. Holds t g) (isNone (R .next)) (λ h. go s g p v room 15 (mine s g p v room e))
+      (λ h. to-hand e h)
 
   pub await-holds : stageAt (R .place) ≡ holding → Holds (Acts.await s p) g
   unfolding Acts.await
@@ -74,7 +76,8 @@ module _ (s : LockState) (g : Tickets) (p : ℕ) (v : Holds s g) (room : p < len
   pub close-holds : stageAt (R .place) ≡ holding → Holds (Acts.close s p) g
   unfolding Acts.close to putTail putRow
   close-holds e =
-      by-test (λ t. Holds t g) (eqb (s .tail) p) (λ h. closed (eqb-true (s .tail) p h)) (λ h. go s g p v room 16 (mine s g p v room e))
+      by-test (λ t. Holds t g) (eqb (s .tail) p) (λ h. closed (eqb-true (s .tail) p h))
+      (λ h. go s g p v room 16 (mine s g p v room e))
     where
       closed : s .tail ≡ p → Holds (to (putTail s none) p 0) g
       closed h =

@@ -1,26 +1,28 @@
--- Places 5 and 6. The link makes p known to the row before it: p is raw no longer. The claim finds the lock parked on the row
--- before it: that one goes from the front, and p is served in its place.
+-- Places 5 and 6. The link makes p known to the row before it: p is raw no longer. The claim finds the lock parked on
+-- the row before it: that one goes from the front, and p is served in its place.
 use Prim.Native.Nat.{ℕ, suc, _<_, _≤_}
 use mathlib.Core.Path.{_≡_, refl, sym, ap, subst, _∙_}
 use mathlib.Core.Bool.{Bool, true, false}
 use mathlib.Core.Logic.{_≢_}
 use native.Mathlib.Omega.{arith}
-use lib.Dec.{eqb, leb}
+use lib.Dec.{eqb}
 use lib.ListN.{length}
-use borrow.Author.Tests.{eqb-true, eqb-false, not-true}
+use borrow.Author.Tests.{eqb-true, not-true}
 use Rattle.lock.specs.declared.Row.{Row}
 use Rattle.lock.specs.declared.LockState.{LockState}
 use Rattle.lock.specs.Choice.{pick}
-use Rattle.lock.specs.State.{none, isNone, isPlain, Released, RP, withNext, withLocked, withPlace, row, putRow, putNext, putLocked, to}
+use Rattle.lock.specs.State.{isNone, isPlain, RP, withNext, withLocked, withPlace, row, putRow, putNext, putLocked, to}
 use Rattle.lock.specs.Acts as Acts
+use Rattle.lock.proofs.Order.Choices.{clash, by-test}
 use Rattle.lock.proofs.Order.Tickets.{Tickets}
-use Rattle.lock.proofs.Order.Writes.{by-same, Both, both-start, both-own, both-near}
-use Rattle.lock.proofs.Order.Stages.{Stage, linking, claiming, stageAt}
-use Rattle.lock.proofs.Order.Roles.{Role, out, raw, wait, tok, rel, lag, role, settled, joining, isSwapping, isQueued, isLifting, parked-out, parked-settled, queued-joined}
-use Rattle.lock.proofs.Order.Statement.{Ghost, upd, upd-same, upd-other, Books, Linked, Queued, Away, Raw, Wait, Tok, Rel, Lag, Duty, given-map, Fenced, Fit, FitRow, Holds}
-use Rattle.lock.proofs.Order.Carry.{clash, passed, queued-map, Asks, pass, pass-fit}
+use Rattle.lock.proofs.Order.Writes.{by-same, both-start, both-own, both-near}
+use Rattle.lock.proofs.Order.Stages.{linking, claiming, stageAt}
+use Rattle.lock.proofs.Order.Roles.{Role, out, raw, wait, tok, rel, lag, joining, isSwapping, isQueued, isLifting, parked-out, parked-settled, queued-joined}
+use Rattle.lock.proofs.Order.Statement.{Ghost, upd, upd-same, upd-other, Queued, Raw, Wait, Tok, Duty, given-map, Fenced, Fit, FitRow, Holds}
+use Rattle.lock.proofs.Order.Carry.{passed, queued-map, Asks, pass, pass-fit}
 use Rattle.lock.proofs.Order.Near.{same-join, before, roleRow, served-first, maker, queued-there, parked-tok-at}
-use Rattle.lock.proofs.Order.Quiet.{both-holds, by-test, free-fit, relock, mine, go}
+use Rattle.lock.proofs.Order.Build.{both-holds, free-fit, relock}
+use Rattle.lock.proofs.Order.Quiet.{mine, go}
 
 -- another next, with what is to be said of it
 chain-duty :
@@ -46,15 +48,19 @@ module _ (s : LockState) (g : Tickets) (p : ℕ) (v : Holds s g) (room : p < len
 
   linked-more : (i : ℕ) → G .linked i ≡ true → H .linked i ≡ true
   linked-more i e =
-      by-same (λ i. G .linked i ≡ true → H .linked i ≡ true) (g .latest p) (λ e. upd-same (G .linked) (g .latest p) true)
+      by-same (λ i. G .linked i ≡ true → H .linked i ≡ true) (g .latest p)
+      (λ e. upd-same (G .linked) (g .latest p) true)
       (λ i d e. upd-other (G .linked) (g .latest p) true i d ∙ e) i e
 
-  link-asks : Raw g G p (R .next) → (q next heir : ℕ) → q ≢ p → Asks g G (G .gone) (G .served) (H .linked) (G .releaser) q next heir
+  link-asks :
+      Raw g G p (R .next) → (q next heir : ℕ) → q ≢ p
+      → Asks g G (G .gone) (G .served) (H .linked) (G .releaser) q next heir
   link-asks d q next heir ne =
       record {
         raws =
             λ w. (
-              upd-other (G .linked) (g .latest p) true (g .latest q) (λ e. ne (same-join (w .queued) (d .queued) e)) ∙ w .unlinked,
+              upd-other (G .linked) (g .latest p) true (g .latest q) (λ e. ne (same-join (w .queued) (d .queued) e))
+                  ∙ w .unlinked,
               w .later,
               w .behind,
             );
@@ -133,7 +139,8 @@ module _ (s : LockState) (g : Tickets) (p : ℕ) (v : Holds s g) (room : p < len
             settles = h .settles;
             duty =
                 chain-duty (roleRow r) y (r .next) p (r .succ) heir chained
-                (pass g G (G .gone) (G .served) (H .linked) (G .releaser) (omega arith) linked-more (roleRow r) y (r .next) (r .succ) heir
+                (pass g G (G .gone) (G .served) (H .linked) (G .releaser) (omega arith) linked-more (roleRow r) y
+                (r .next) (r .succ) heir
                 (link-asks d y (r .next) heir (λ z. apart (sym z))) (h .duty));
             joins = h .joins;
             blank = rw (not-true (isSwapping st) (queued-joined st (r .locked) (isNone (r .nx)) (h .small) (at .2))) tt;
@@ -148,15 +155,19 @@ module _ (s : LockState) (g : Tickets) (p : ℕ) (v : Holds s g) (room : p < len
                   still = w .still;
                   kept =
                       λ k.
-                      clash (sym (ap (G .linked) next-join) ∙ (at .1 .chain (λ n. k (sym (w .kept k) ∙ n))) .done) (d .unlinked);
+                      clash (sym (ap (G .linked) next-join) ∙ (at .1 .chain (λ n. k (sym (w .kept k) ∙ n))) .done)
+                      (d .unlinked);
                 };
             manned = h .manned;
           }
 
-      own : (k : ℕ) → Fit (s .edition) g H p (stageAt k) 1 (R .next) (R .pred) (R .succ) (R .nx) (R .guard) → Holds (to (putNext s y p) p k) g
+      own :
+          (k : ℕ) → Fit (s .edition) g H p (stageAt k) 1 (R .next) (R .pred) (R .succ) (R .nx) (R .guard)
+          → Holds (to (putNext s y p) p k) g
       own k z =
           both-holds v H
-          (both-own (λ r. withPlace r k) (both-near (λ r. withNext r p) (both-start s p y apart room (queued-there s g v y (at .2))))) refl
+          (both-own (λ r. withPlace r k) (both-near (λ r. withNext r p)
+          (both-start s p y apart room (queued-there s g v y (at .2))))) refl
           (record {
             low = v .books .low;
             least = v .books .least;
@@ -166,10 +177,12 @@ module _ (s : LockState) (g : Tickets) (p : ℕ) (v : Holds s g) (room : p < len
             empty = v .books .empty;
             last = v .books .last;
           })
-          (subst (λ (l : ℕ). Fit (s .edition) g H p (stageAt k) l (R .next) (R .pred) (R .succ) (R .nx) (R .guard)) (sym locked) z) near
+          (subst (λ (l : ℕ). Fit (s .edition) g H p (stageAt k) l (R .next) (R .pred) (R .succ) (R .nx) (R .guard))
+          (sym locked) z) near
           (λ q a b.
           pass-fit g G (G .gone) (G .served) (H .linked) (G .releaser) (omega arith) linked-more
-          (link-asks d q ((row s q) .next) (pick (isLifting (stageAt ((row s q) .place))) ((row s q) .nx) ((row s q) .succ)) a)
+          (link-asks d q ((row s q) .next)
+          (pick (isLifting (stageAt ((row s q) .place))) ((row s q) .nx) ((row s q) .succ)) a)
           (v .fits q))
 
       fenced : G .fencer p ≢ 0 → Fenced (G .lagged p) (G .peeked p) 1 (R .next) (R .guard)
@@ -212,7 +225,8 @@ module _ (s : LockState) (g : Tickets) (p : ℕ) (v : Holds s g) (room : p < len
           by-locked true z =
               let d : Tok g G p (R .next) = rw z at (f .duty) in
               let w = parked-tok-at s g v y h in
-              let same : y ≡ p = same-join (w .0 .queued) (d .queued) (served-first s g v (w .0) .0 ∙ sym (served-first s g v d .0)) in
+              let same : y ≡ p = same-join (w .0 .queued) (d .queued)
+              (served-first s g v (w .0) .0 ∙ sym (served-first s g v d .0)) in
               clash (subst (λ (q : ℕ). eqb ((row s q) .locked) 3 ≡ true) same h) (rw (eqb-true (R .locked) 0 z) refl)
           by-locked false z = rw z at (f .duty)
 

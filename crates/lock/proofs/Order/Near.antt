@@ -1,5 +1,5 @@
--- What is known of a neighbour: of who made a join that is still in the queue, of the heir of who hands the lock on, of a row on
--- which the lock is parked.
+-- What is known of a neighbour: of who made a join that is still in the queue, of the heir of who hands the lock on,
+-- of a row on which the lock is parked.
 --     same-join        two in the queue with one number are one
 --     before           the join before a later one
 --     duty-as          what is said of a row, its role known
@@ -10,24 +10,26 @@
 --     parked-tok-at    a row with R_P has the lock, at the front
 use Prim.Native.Nat.{ℕ, zero, suc, _<_, _≤_}
 use mathlib.Core.Path.{_≡_, refl, sym, ap, subst, _∙_}
-use mathlib.Core.Bool.{Bool, true, false}
+use mathlib.Core.Bool.{true}
 use mathlib.Core.Logic.{_≢_}
 use native.Mathlib.Omega.{arith}
-use lib.Dec.{eqb, leb}
+use lib.Dec.{eqb}
 use lib.ListN.{length}
 use borrow.Author.Tests.{eqb-true}
 use Rattle.lock.specs.declared.Row.{Row}
 use Rattle.lock.specs.declared.LockState.{LockState}
 use Rattle.lock.specs.Choice.{pick}
-use Rattle.lock.specs.State.{none, isNone, freshRow, row}
+use Rattle.lock.specs.State.{none, isNone, row}
+use Rattle.lock.proofs.Order.Choices.{clash}
 use Rattle.lock.proofs.Order.Tickets.{Tickets}
 use Rattle.lock.proofs.Order.Writes.{row-there}
-use Rattle.lock.proofs.Order.Stages.{Stage, stageAt}
+use Rattle.lock.proofs.Order.Stages.{stageAt}
 use Rattle.lock.proofs.Order.Roles.{Role, out, raw, wait, tok, rel, lag, role, settled, isQueued, isLifting, parked-tok}
-use Rattle.lock.proofs.Order.Statement.{Ghost, Books, Linked, Queued, Away, Raw, Wait, Tok, Rel, Lag, Duty, Fit, FitRow, Holds}
-use Rattle.lock.proofs.Order.Carry.{clash, Asks, owner}
+use Rattle.lock.proofs.Order.Statement.{Ghost, Queued, Raw, Wait, Tok, Rel, Duty, Fit, Holds}
+use Rattle.lock.proofs.Order.Carry.{Asks, owner}
 
-pub same-join : {g : Tickets} {G : Ghost} {q x a b : ℕ} → Queued g G q a → Queued g G x b → g .latest q ≡ g .latest x → q ≡ x
+pub same-join :
+    {g : Tickets} {G : Ghost} {q x a b : ℕ} → Queued g G q a → Queued g G x b → g .latest q ≡ g .latest x → q ≡ x
 same-join {G = G} v w e = sym (v .mine) ∙ ap (G .who) e ∙ w .mine
 
 pub before : (a m : ℕ) → a < m → (i : ℕ) × (suc i ≡ m) × (a ≤ i)
@@ -43,7 +45,8 @@ DutyRow g G q r = Duty (roleRow r) g G q (r .next) (r .succ) (pick (isLifting (s
 
 -- at the front, linked and not served: it waits
 waits :
-    {g : Tickets} {G : Ghost} (ρ : Role) (q next succ heir : ℕ) → isQueued ρ ≡ true → g .latest q ≡ G .gone → G .linked (G .gone) ≡ true
+    {g : Tickets} {G : Ghost} (ρ : Role) (q next succ heir : ℕ) → isQueued ρ ≡ true → g .latest q ≡ G .gone
+    → G .linked (G .gone) ≡ true
     → G .served ≡ G .gone → Duty ρ g G q next succ heir → (ρ ≡ wait) × Wait g G q next
 waits out q next succ heir u e l h d = clash u refl
 waits {G = G} raw q next succ heir u e l h d = clash (ap (G .linked) e ∙ l) (d .unlinked)
@@ -60,11 +63,14 @@ module _ (s : LockState) (g : Tickets) (v : Holds s g) where
       (pick (isLifting (stageAt ((row s q) .place))) ((row s q) .nx) ((row s q) .succ))
   duty-as q e =
       let r = row s q in
-      subst (λ (ρ : Role). Duty ρ g (v .ghost) q (r .next) (r .succ) (pick (isLifting (stageAt (r .place))) (r .nx) (r .succ))) e
+      subst (λ (ρ : Role). Duty ρ g (v .ghost) q (r .next) (r .succ)
+      (pick (isLifting (stageAt (r .place))) (r .nx) (r .succ))) e
       ((v .fits q) .duty)
 
   -- who is served is at the front
-  pub served-first : {q next : ℕ} → Tok g (v .ghost) q next → (g .latest q ≡ v .ghost .gone) × (v .ghost .served ≡ suc (v .ghost .gone))
+  pub served-first :
+      {q next : ℕ} → Tok g (v .ghost) q next
+      → (g .latest q ≡ v .ghost .gone) × (v .ghost .served ≡ suc (v .ghost .gone))
   served-first w =
       let low = w .queued .low in
       let first = w .first in
@@ -107,7 +113,8 @@ module _ (s : LockState) (g : Tickets) (v : Holds s g) where
       let k : g .latest y ≡ i = ap (g .latest) e ∙ v .books .known i a b in
       let r = row s y in
       let w =
-      owner (roleRow r) y (r .next) (r .succ) (pick (isLifting (stageAt (r .place))) (r .nx) (r .succ)) (rw k a) (rw k b)
+      owner (roleRow r) y (r .next) (r .succ) (pick (isLifting (stageAt (r .place))) (r .nx) (r .succ)) (rw k a)
+      (rw k b)
       (ap (G .who) k ∙ sym e) ((v .fits y) .duty) in
       (k, w .0, w .1)
 
@@ -124,7 +131,8 @@ module _ (s : LockState) (g : Tickets) (v : Holds s g) where
       let w = maker y (G .gone) (d .front .made) (omega arith) (d .front .below) in
       let r = row s y in
       let z =
-      waits (roleRow r) y (r .next) (r .succ) (pick (isLifting (stageAt (r .place))) (r .nx) (r .succ)) (w .2) (w .0) (d .front .done)
+      waits (roleRow r) y (r .next) (r .succ) (pick (isLifting (stageAt (r .place))) (r .nx) (r .succ)) (w .2) (w .0)
+      (d .front .done)
       (d .handing) ((v .fits y) .duty) in
       record {
         at = w .0;
@@ -144,7 +152,8 @@ module _ (s : LockState) (g : Tickets) (v : Holds s g) where
       let r = row s y in
       let st = stageAt (r .place) in
       let f : Fit (s .edition) g G y st 3 (r .next) (r .pred) (r .succ) (r .nx) (r .guard)
-      = subst (λ (z : ℕ). Fit (s .edition) g G y st z (r .next) (r .pred) (r .succ) (r .nx) (r .guard)) (eqb-true (r .locked) 3 h) (v .fits y) in
+      = subst (λ (z : ℕ). Fit (s .edition) g G y st z (r .next) (r .pred) (r .succ) (r .nx) (r .guard))
+      (eqb-true (r .locked) 3 h) (v .fits y) in
       let ρ : role st 3 (isNone (r .nx)) ≡ tok = parked-tok st (isNone (r .nx)) (f .settles) in (
         subst (λ (z : Role). Duty z g G y (r .next) (r .succ) (pick (isLifting st) (r .nx) (r .succ))) ρ (f .duty),
         f .settles,

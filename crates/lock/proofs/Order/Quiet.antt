@@ -1,104 +1,24 @@
--- The steps that move no ghost: they write only the processor's own row, and what the invariant says of it stays what it was or
--- follows from the test that the step made. First how the invariant is put together after a step that writes one row or two.
---     own-holds, both-holds        the invariant after a step that writes one row, or two
---     quiet                        the same where ghosts, tickets and tail stay
---     free-fit                     what is left to show of a row at a stage of which little is said
-use Prim.Native.Nat.{ℕ, suc, _<_, _≤_}
-use mathlib.Core.Path.{_≡_, refl, sym, ap, subst, _∙_}
-use mathlib.Core.Bool.{Bool, true, false, not, _&&_, _||_}
+-- The steps that move no ghost: they write only the processor's own row, and what the invariant says of it stays what
+-- it was or follows from the test that the step made.
+use Prim.Native.Nat.{ℕ, suc, _<_}
+use mathlib.Core.Path.{_≡_, refl, subst}
+use mathlib.Core.Bool.{Bool, true, false, _&&_, _||_}
 use mathlib.Core.Logic.{_≢_}
-use native.Mathlib.Omega.{arith}
-use lib.Dec.{eqb, leb}
+use lib.Dec.{eqb}
 use lib.ListN.{length}
-use borrow.Author.Tests.{eqb-true, eqb-false, not-true}
+use borrow.Author.Tests.{eqb-true}
 use Rattle.lock.specs.declared.Row.{Row}
 use Rattle.lock.specs.declared.LockState.{LockState}
-use Rattle.lock.specs.Choice.{pick, every}
+use Rattle.lock.specs.Choice.{pick}
 use Rattle.lock.specs.State.{none, isNone, isPlain, isDrawn, isGuarded, withNext, withLocked, withFlag, withPlace, withNx, row, putRow, putNext, putLocked, putFlag, to, putNx}
 use Rattle.lock.specs.Acts as Acts
+use Rattle.lock.proofs.Order.Choices.{clash, and-right, left-of, by-test}
 use Rattle.lock.proofs.Order.Tickets.{Tickets, isOrdered}
-use Rattle.lock.proofs.Order.Calls.{and-left, and-right}
-use Rattle.lock.proofs.Order.Writes.{Own, own-start, own-put, own-all, Both, both-all}
-use Rattle.lock.proofs.Order.Stages.{Stage, resting, clearing, swapping, arming, linking, claiming, spinning, settling, holding, serving, regaining, handing, fencing, parking, peeking, taking, lifting, stageAt, stage-by, implies, implied}
-use Rattle.lock.proofs.Order.Roles.{Role, out, wait, tok, role, settled, joining, isSwapping, fences, isTaking, isOpen, isLifting, isLeft}
-use Rattle.lock.proofs.Order.Statement.{Ghost, Books, Queued, Linked, Away, Raw, Wait, Tok, Rel, Lag, Duty, Fencing, Fenced, Fit, FitRow, Holds}
-use Rattle.lock.proofs.Order.Carry.{clash}
-
-pub own-holds :
-    {s t : LockState} {g h : Tickets} {p : ℕ} {r : Row} (v : Holds s g) (H : Ghost) → Own s t p r → t .edition ≡ s .edition
-    → Books h H (t .tail) → FitRow (s .edition) h H p r → ((q : ℕ) → q ≢ p → FitRow (s .edition) h H q (row s q)) → Holds t h
-own-holds {s} {t} {g} {h} v H o e b mine theirs =
-    record {
-      rooms = o .rooms ∙ v .rooms;
-      ordered = subst (λ (z : ℕ). isOrdered z ≡ true) (sym e) (v .ordered);
-      ghost = H;
-      books = b;
-      fits =
-          subst (λ (z : ℕ). (q : ℕ) → FitRow z h H q (row t q)) (sym e) (own-all (FitRow (s .edition) h H) o mine theirs);
-    }
-
-pub both-holds :
-    {s t : LockState} {g h : Tickets} {p y : ℕ} {r x : Row} (v : Holds s g) (H : Ghost) → Both s t p y r x → t .edition ≡ s .edition
-    → Books h H (t .tail) → FitRow (s .edition) h H p r → FitRow (s .edition) h H y x
-    → ((q : ℕ) → q ≢ p → q ≢ y → FitRow (s .edition) h H q (row s q)) → Holds t h
-both-holds {s} {t} {g} {h} v H o e b mine near theirs =
-    record {
-      rooms = o .rooms ∙ v .rooms;
-      ordered = subst (λ (z : ℕ). isOrdered z ≡ true) (sym e) (v .ordered);
-      ghost = H;
-      books = b;
-      fits =
-          subst (λ (z : ℕ). (q : ℕ) → FitRow z h H q (row t q)) (sym e) (both-all (FitRow (s .edition) h H) o mine near theirs);
-    }
-
-pub quiet :
-    {s t : LockState} {g : Tickets} {p : ℕ} {r : Row} (v : Holds s g) → Own s t p r → t .edition ≡ s .edition → t .tail ≡ s .tail
-    → FitRow (s .edition) g (v .ghost) p r → Holds t g
-quiet {s} {t} {g} v o e l mine =
-    own-holds v (v .ghost) o e (subst (λ (z : ℕ). Books g (v .ghost) z) (sym l) (v .books)) mine (λ q d. v .fits q)
-
--- the stages at which pred, next, succ and nx are not spoken of, beyond the role
-abbrev pub isFree : Stage → Bool
-isFree st = not (joining st) && not (isSwapping st) && not (fences st) && not (isTaking st) && isOpen st
-
-pub free-fit :
-    {e : ℕ} {g : Tickets} {G : Ghost} {q : ℕ} {st : Stage} {l next pred succ nx : ℕ} {guard : Bool} → isFree st ≡ true
-    → leb l 3 ≡ true → settled st l ≡ true → Duty (role st l (isNone nx)) g G q next succ (pick (isLifting st) nx succ)
-    → (G .fencer q ≢ 0 → Fenced (G .lagged q) (G .peeked q) l next guard) → (guard ≡ true → (e ≢ 0) × (G .fencer q ≢ 0))
-    → ((x : ℕ) → G .fencer x ≢ suc q)
-    → Fit e g G q st l next pred succ nx guard
-free-fit {g = g} {G = G} {q = q} {st = st} {succ = succ} free small settles duty fenced manned idle =
-    let a = not (joining st) in
-    let b = not (isSwapping st) in
-    let c = not (fences st) in
-    let d = not (isTaking st) in
-    let abcd = and-left (a && b && c && d) (isOpen st) free in
-    let abc = and-left (a && b && c) d abcd in
-    let ab = and-left (a && b) c abc in
-    record {
-      small = small;
-      settles = settles;
-      duty = duty;
-      joins = rw (not-true (joining st) (and-left a b ab)) tt;
-      blank = rw (not-true (isSwapping st) (and-right a b ab)) tt;
-      fencing = rw (not-true (fences st) (and-right (a && b) c abc)) idle;
-      peeking = rw (not-true (isTaking st) (and-right (a && b && c) d abcd)) tt;
-      shut = λ k. and-right (a && b && c && d) (isOpen st) free;
-      fenced = fenced;
-      manned = manned;
-    }
-
--- another locked on a row that may be fenced
-pub relock : {k : Bool} {z l m next : ℕ} {guard : Bool} → (isLeft l ≡ true → isLeft m ≡ true) → Fenced k z l next guard → Fenced k z m next guard
-relock f w = record { set = w .set; still = λ k. f (w .still k); kept = w .kept }
-
-pub by-test : (P : LockState → Type 0) (b : Bool) {x y : LockState} → (b ≡ true → P x) → (b ≡ false → P y) → P (pick b x y)
-by-test P true f g = f refl
-by-test P false f g = g refl
-
-left-of : (a b : Bool) → a || b ≡ true → b ≡ false → a ≡ true
-left-of true b e f = refl
-left-of false b e f = clash e f
+use Rattle.lock.proofs.Order.Writes.{own-start, own-put}
+use Rattle.lock.proofs.Order.Stages.{Stage, resting, clearing, arming, spinning, settling, holding, serving, regaining, fencing, peeking, stageAt}
+use Rattle.lock.proofs.Order.Roles.{Role, out, wait, tok}
+use Rattle.lock.proofs.Order.Statement.{Ghost, Away, Lag, Duty, Fencing, Fit, Holds}
+use Rattle.lock.proofs.Order.Build.{quiet, free-fit, relock}
 
 -- of the ordered editions, the one without a gate is the plain one, and none is the drawn one
 ordered-plain : (e : ℕ) → isOrdered e ≡ true → isGuarded e ≡ false → e ≡ 0
@@ -130,18 +50,25 @@ module _ (s : LockState) (g : Tickets) (p : ℕ) (v : Holds s g) (room : p < len
   G = v .ghost
 
   -- what is said of the own row, once the stage is known
-  pub mine : {a : Stage} → stageAt (R .place) ≡ a → Fit (s .edition) g G p a (R .locked) (R .next) (R .pred) (R .succ) (R .nx) (R .guard)
+  pub mine :
+      {a : Stage} → stageAt (R .place) ≡ a
+      → Fit (s .edition) g G p a (R .locked) (R .next) (R .pred) (R .succ) (R .nx) (R .guard)
   mine e = rw e at (v .fits p)
 
   -- a step to another place, own cells as they are
-  pub go : (k : ℕ) → Fit (s .edition) g G p (stageAt k) (R .locked) (R .next) (R .pred) (R .succ) (R .nx) (R .guard) → Holds (to s p k) g
+  pub go :
+      (k : ℕ) → Fit (s .edition) g G p (stageAt k) (R .locked) (R .next) (R .pred) (R .succ) (R .nx) (R .guard)
+      → Holds (to s p k) g
   unfolding to putRow
   go k f = quiet v (own-put (λ r. withPlace r k) (own-start s p room)) refl refl f
 
   -- the same with a new locked
-  go-locked : (l k : ℕ) → Fit (s .edition) g G p (stageAt k) l (R .next) (R .pred) (R .succ) (R .nx) (R .guard) → Holds (to (putLocked s p l) p k) g
+  go-locked :
+      (l k : ℕ) → Fit (s .edition) g G p (stageAt k) l (R .next) (R .pred) (R .succ) (R .nx) (R .guard)
+      → Holds (to (putLocked s p l) p k) g
   unfolding to putLocked putRow
-  go-locked l k f = quiet v (own-put (λ r. withPlace r k) (own-put (λ r. withLocked r l) (own-start s p room))) refl refl f
+  go-locked l k f = quiet v (own-put (λ r. withPlace r k)
+      (own-put (λ r. withLocked r l) (own-start s p room))) refl refl f
 
   -- at 2 with the guard clear
   open-fit :
@@ -171,7 +98,8 @@ module _ (s : LockState) (g : Tickets) (p : ℕ) (v : Holds s g) (room : p < len
 
       by-gate : (b : Bool) → isGuarded (s .edition) ≡ b → Holds (to s p (pick b 1 2)) g
       by-gate true h = go 1 (free-fit refl (f .small) free away (f .fenced) (f .manned) idle)
-      by-gate false h = go 2 (open-fit (clear-guard (R .guard) (f .manned) (ordered-plain (s .edition) (v .ordered) h)) free away idle)
+      by-gate false h = go 2 (open-fit
+          (clear-guard (R .guard) (f .manned) (ordered-plain (s .edition) (v .ordered) h)) free away idle)
 
   pub rest-holds : stageAt (R .place) ≡ resting → Holds (Acts.rest s p) g
   unfolding Acts.rest putFlag putRow
@@ -183,7 +111,8 @@ module _ (s : LockState) (g : Tickets) (p : ℕ) (v : Holds s g) (room : p < len
   pub gate-holds : stageAt (R .place) ≡ resting → Holds (Acts.gate s p) g
   unfolding Acts.gate
   gate-holds e =
-      by-test (λ t. Holds t g) (R .guard) (λ b. v) (λ b. go 2 (open-fit b ((mine e) .settles) ((mine e) .duty) ((mine e) .fencing)))
+      by-test (λ t. Holds t g) (R .guard) (λ b. v)
+      (λ b. go 2 (open-fit b ((mine e) .settles) ((mine e) .duty) ((mine e) .fencing)))
 
   pub clear-holds : stageAt (R .place) ≡ clearing → Holds (Acts.clear s p) g
   unfolding Acts.clear to putNext putRow
@@ -240,9 +169,12 @@ module _ (s : LockState) (g : Tickets) (p : ℕ) (v : Holds s g) (room : p < len
   inside-holds e = go 14 (mine e)
 
   -- the own row with its locked known
-  locked-as : {a : Stage} {l : ℕ} → stageAt (R .place) ≡ a → eqb (R .locked) l ≡ true → Fit (s .edition) g G p a l (R .next) (R .pred) (R .succ) (R .nx) (R .guard)
+  locked-as :
+      {a : Stage} {l : ℕ} → stageAt (R .place) ≡ a → eqb (R .locked) l ≡ true
+      → Fit (s .edition) g G p a l (R .next) (R .pred) (R .succ) (R .nx) (R .guard)
   locked-as {a} {l} e h =
-      subst (λ (z : ℕ). Fit (s .edition) g G p a z (R .next) (R .pred) (R .succ) (R .nx) (R .guard)) (eqb-true (R .locked) l h) (mine e)
+      subst (λ (z : ℕ). Fit (s .edition) g G p a z (R .next) (R .pred) (R .succ) (R .nx) (R .guard))
+      (eqb-true (R .locked) l h) (mine e)
 
   pub poll-holds : stageAt (R .place) ≡ spinning → Holds (Acts.poll s p) g
   unfolding Acts.poll to putFlag putLocked putRow
@@ -250,7 +182,8 @@ module _ (s : LockState) (g : Tickets) (p : ℕ) (v : Holds s g) (room : p < len
       by-test (λ t. Holds t g) (R .flag && eqb (R .locked) 1)
       (λ b.
       let f = locked-as {l = 1} e (and-right (R .flag) (eqb (R .locked) 1) b) in
-      quiet v (own-put (λ r. withPlace r 11) (own-put (λ r. withFlag r false) (own-put (λ r. withLocked r 2) (own-start s p room)))) refl refl
+      quiet v (own-put (λ r. withPlace r 11)
+      (own-put (λ r. withFlag r false) (own-put (λ r. withLocked r 2) (own-start s p room)))) refl refl
       (free-fit refl refl refl (f .duty) (λ d. relock (λ k. clash k refl) (f .fenced d)) (f .manned) (f .fencing)))
       (λ b. go 7 (mine e))
 
@@ -264,7 +197,8 @@ module _ (s : LockState) (g : Tickets) (p : ℕ) (v : Holds s g) (room : p < len
       by-test (λ t. Holds t g) (eqb (R .locked) 2)
       (λ b.
       let f = locked-as {l = 2} e b in
-      go-locked 1 7 (free-fit refl refl refl (f .duty) (λ d. relock (λ k. clash k refl) (f .fenced d)) (f .manned) (f .fencing)))
+      go-locked 1 7 (free-fit refl refl refl (f .duty) (λ d. relock (λ k. clash k refl) (f .fenced d)) (f .manned)
+      (f .fencing)))
       (λ b.
       let f = mine e in
       let o = eqb (R .locked) 0 in
@@ -272,7 +206,8 @@ module _ (s : LockState) (g : Tickets) (p : ℕ) (v : Holds s g) (room : p < len
       let left : o || x ≡ true = left-of (o || x) (eqb (R .locked) 2) (f .settles) b in
       go 13
       (free-fit refl (f .small) left
-      (subst (λ (z : Role). Duty z g G p (R .next) (R .succ) (R .succ)) (back-role o x left) (f .duty)) (f .fenced) (f .manned) (f .fencing)))
+      (subst (λ (z : Role). Duty z g G p (R .next) (R .succ) (R .succ)) (back-role o x left) (f .duty)) (f .fenced)
+      (f .manned) (f .fencing)))
 
   pub regain-holds : stageAt (R .place) ≡ regaining → Holds (Acts.regain s p) g
   unfolding Acts.regain
@@ -280,7 +215,8 @@ module _ (s : LockState) (g : Tickets) (p : ℕ) (v : Holds s g) (room : p < len
       by-test (λ t. Holds t g) (eqb (R .locked) 3)
       (λ b.
       let f = locked-as {l = 3} e b in
-      go-locked 0 7 (free-fit refl refl refl (f .duty) (λ d. relock (λ k. refl) (f .fenced d)) (f .manned) (f .fencing)))
+      go-locked 0 7 (free-fit refl refl refl (f .duty) (λ d. relock (λ k. refl) (f .fenced d)) (f .manned)
+      (f .fencing)))
       (λ b.
       let f = mine e in
       let o : eqb (R .locked) 0 ≡ true = left-of (eqb (R .locked) 0) (eqb (R .locked) 3) (f .settles) b in

@@ -1,13 +1,14 @@
--- What a row does in the queue, read off its stage, its locked and whether its nx is none; and the few facts about these tables
--- that the invariant's proof uses of a row whose stage it does not know.
---     Role, role           out, raw (joined, not yet linked), wait, tok (has the lock), rel (hands it on), lag (has handed it on)
+-- What a row does in the queue, read off its stage, its locked and whether its nx is none; and the few facts about
+-- these tables that the invariant's proof uses of a row whose stage it does not know.
+--     Role, role           out, raw (joined, not yet linked), wait, tok (has the lock), rel (hands it on), lag (has
+--                          parked it)
 --     settled              which locked a stage allows
 --     joining, isSwapping, fences, isTaking, isOpen, isLifting       ranges of stages
 --     table                a test of stage, locked and nx that computes to true at each holds of any
 use Prim.Native.Nat.{ℕ, suc, _≤_}
 use mathlib.Core.Path.{_≡_, refl, sym, ap, subst, _∙_}
 use mathlib.Core.Bool.{Bool, true, false, not, _&&_, _||_, or-true}
-use mathlib.Core.List.{List, [], _∷_}
+use mathlib.Core.List.{[], _∷_}
 use mathlib.Core.Logic.{_⊎_, inl, inr}
 use native.Mathlib.Omega.{arith}
 use lib.ListN.{getD}
@@ -15,8 +16,9 @@ use lib.Dec.{eqb, leb, ltb}
 use borrow.Author.Tests.{eqb-true, leb-true, ltb-true, ltb-false, eq-eqb}
 use Rattle.lock.specs.Choice.{pick, every}
 use Rattle.lock.specs.Sound.{hasPlace}
-use Rattle.lock.proofs.Order.Calls.{and-left, and-right, every-at}
-use Rattle.lock.proofs.Order.Stages.{Stage, resting, clearing, swapping, arming, linking, claiming, spinning, settling, holding, serving, regaining, handing, fencing, parking, peeking, taking, lifting, stageAt, stage-far, everyStage, stage-by, implies, implied}
+use Rattle.lock.proofs.Order.Choices.{and-left, and-right, implies, implied}
+use Rattle.lock.proofs.Order.Calls.{every-at}
+use Rattle.lock.proofs.Order.Stages.{Stage, resting, clearing, swapping, arming, linking, claiming, spinning, settling, holding, serving, regaining, handing, fencing, parking, peeking, taking, lifting, stageAt, stage-far, everyStage, stage-by}
 
 pub data Role : Type 0 where
   out raw wait tok rel lag : Role
@@ -148,9 +150,11 @@ abbrev fourTimes : (ℕ → Bool → Bool) → Bool
 fourTimes f = every 4 (λ l. f l true && f l false)
 
 pub table :
-    (f : Stage → ℕ → Bool → Bool) → everyStage (λ st. fourTimes (f st)) ≡ true → (st : Stage) (l : ℕ) (x : Bool) → leb l 3 ≡ true
+    (f : Stage → ℕ → Bool → Bool) → everyStage (λ st. fourTimes (f st)) ≡ true → (st : Stage) (l : ℕ) (x : Bool)
+    → leb l 3 ≡ true
     → f st l x ≡ true
-table f e st l x h = one x (every-at 4 (λ l. f st l true && f st l false) l (stage-by (λ st. fourTimes (f st)) e st) small)
+table f e st l x h = one x (every-at 4 (λ l. f st l true && f st l false) l
+    (stage-by (λ st. fourTimes (f st)) e st) small)
   where
     small : suc l ≤ 4
     small = let b : l ≤ 3 = leb-true l 3 h in omega arith
@@ -162,10 +166,12 @@ table f e st l x h = one x (every-at 4 (λ l. f st l true && f st l false) l (st
 -- a fact of the form: where the test holds, the role is this one
 because :
     (f : Stage → ℕ → Bool → Bool) (ρ : Stage → ℕ → Bool → Role) (a : Role)
-    → everyStage (λ st. fourTimes (λ l x. implies (f st l x) (is (ρ st l x) a))) ≡ true → (st : Stage) (l : ℕ) (x : Bool)
+    → everyStage (λ st. fourTimes (λ l x. implies (f st l x) (is (ρ st l x) a))) ≡ true
+    → (st : Stage) (l : ℕ) (x : Bool)
     → leb l 3 ≡ true → f st l x ≡ true → ρ st l x ≡ a
 because f ρ a e st l x h t =
-    is-same (ρ st l x) a (implied (f st l x) (is (ρ st l x) a) (table (λ st l x. implies (f st l x) (is (ρ st l x) a)) e st l x h) t)
+    is-same (ρ st l x) a (implied (f st l x) (is (ρ st l x) a)
+    (table (λ st l x. implies (f st l x) (is (ρ st l x) a)) e st l x h) t)
 
 -- R_P: the lock is parked here, and is gone once locked is Released
 pub parked-tok : (st : Stage) (x : Bool) → settled st 3 ≡ true → role st 3 x ≡ tok
@@ -178,7 +184,8 @@ parked-out st x = because (λ st l x. settled st 3) (λ st l x. role st 0 x) out
 
 pub parked-settled : (st : Stage) → settled st 3 ≡ true → settled st 0 ≡ true
 unfolding every
-parked-settled st h = implied (settled st 3) (settled st 0) (stage-by (λ st. implies (settled st 3) (settled st 0)) refl st) h
+parked-settled st h = implied (settled st 3) (settled st 0)
+    (stage-by (λ st. implies (settled st 3) (settled st 0)) refl st) h
 
 -- Preempted: parking makes it R_P
 pub preempted-tok : (st : Stage) (x : Bool) → settled st 2 ≡ true → role st 3 x ≡ tok
@@ -187,10 +194,13 @@ preempted-tok st x = because (λ st l x. settled st 2) (λ st l x. role st 3 x) 
 
 pub preempted-settled : (st : Stage) → settled st 2 ≡ true → settled st 3 ≡ true
 unfolding every
-preempted-settled st h = implied (settled st 2) (settled st 3) (stage-by (λ st. implies (settled st 2) (settled st 3)) refl st) h
+preempted-settled st h = implied (settled st 2) (settled st 3)
+    (stage-by (λ st. implies (settled st 2) (settled st 3)) refl st) h
 
--- who waits: Locked, it takes the lock when locked becomes Released; its place is open; its locked is neither Released nor R_P
-pub wait-tok : (st : Stage) (x : Bool) → role st 1 x ≡ wait → settled st 1 ≡ true → (role st 0 x ≡ tok) × (settled st 0 ≡ true)
+-- who waits: Locked, it takes the lock when locked becomes Released; its place is open; its locked is neither
+-- Released nor R_P
+pub wait-tok :
+    (st : Stage) (x : Bool) → role st 1 x ≡ wait → settled st 1 ≡ true → (role st 0 x ≡ tok) × (settled st 0 ≡ true)
 unfolding every
 wait-tok st x e h =
     let t : is (role st 1 x) wait && settled st 1 ≡ true = rw (same-is (role st 1 x) wait e) h in (
@@ -202,7 +212,8 @@ wait-tok st x e h =
 pub wait-open : (st : Stage) (l : ℕ) (x : Bool) → leb l 3 ≡ true → role st l x ≡ wait → isOpen st ≡ true
 unfolding every
 wait-open st l x h e =
-    implied (is (role st l x) wait) (isOpen st) (table (λ st l x. implies (is (role st l x) wait) (isOpen st)) refl st l x h)
+    implied (is (role st l x) wait) (isOpen st)
+    (table (λ st l x. implies (is (role st l x) wait) (isOpen st)) refl st l x h)
     (same-is (role st l x) wait e)
 
 pub wait-stays :
@@ -214,22 +225,12 @@ wait-stays st l x h e t =
     (rw (same-is (role st l x) wait e) t)
 
 -- who is in the queue is not about to join it
-pub queued-joined : (st : Stage) (l : ℕ) (x : Bool) → leb l 3 ≡ true → isQueued (role st l x) ≡ true → not (isSwapping st) ≡ true
+pub queued-joined :
+    (st : Stage) (l : ℕ) (x : Bool) → leb l 3 ≡ true → isQueued (role st l x) ≡ true → not (isSwapping st) ≡ true
 unfolding every
 queued-joined st l x h e =
     implied (isQueued (role st l x)) (not (isSwapping st))
     (table (λ st l x. implies (isQueued (role st l x)) (not (isSwapping st))) refl st l x h) e
-
--- who waits does not fence
-pub wait-fences :
-    (st : Stage) (l : ℕ) (x : Bool) → leb l 3 ≡ true → role st l x ≡ wait → (not (fences st) ≡ true) × (not (isTaking st) ≡ true)
-unfolding every
-wait-fences st l x h e = (
-  implied (is (role st l x) wait) (not (fences st))
-      (table (λ st l x. implies (is (role st l x) wait) (not (fences st))) refl st l x h) (same-is (role st l x) wait e),
-  implied (is (role st l x) wait) (not (isTaking st))
-      (table (λ st l x. implies (is (role st l x) wait) (not (isTaking st))) refl st l x h) (same-is (role st l x) wait e),
-)
 
 -- who fences hands on or lags; who is at 21 lags
 pub fences-kind :
@@ -241,7 +242,8 @@ fences-kind st l x h e =
     (table (λ st l x. implies (fences st) (is (role st l x) rel || is (role st l x) lag)) refl st l x h) e)
   where
     either :
-        (a b : Bool) → is (role st l x) rel ≡ a → is (role st l x) lag ≡ b → a || b ≡ true → (role st l x ≡ rel) ⊎ (role st l x ≡ lag)
+        (a b : Bool) → is (role st l x) rel ≡ a → is (role st l x) lag ≡ b → a || b ≡ true
+        → (role st l x ≡ rel) ⊎ (role st l x ≡ lag)
     either true b f g o = inl (is-same (role st l x) rel f)
     either false true f g o = inr (is-same (role st l x) lag g)
     either false false f g o = absurd (let z : _≡_ {A = ℕ} 0 1 = cc in omega arith)
@@ -250,10 +252,11 @@ pub taking-lag : (st : Stage) (l : ℕ) (x : Bool) → leb l 3 ≡ true → isTa
 unfolding every
 taking-lag st l x h = because (λ st l x. isTaking st) role lag refl st l x h
 
--- The numbers of the places, where a number decides: a test of a number and its stage that computes to true at each of the
--- 23 places, and at a resting stage for any other number, holds of any.
+-- The numbers of the places, where a number decides: a test of a number and its stage that computes to true at each
+-- of the 23 places, and at a resting stage for any other number, holds of any.
 placed-where :
-    (f : ℕ → Stage → Bool) (k : ℕ) (b : Bool) → ltb k 23 ≡ b → every 23 (λ k. f k (stageAt k)) ≡ true → (b ≡ false → f k resting ≡ true)
+    (f : ℕ → Stage → Bool) (k : ℕ) (b : Bool) → ltb k 23 ≡ b → every 23 (λ k. f k (stageAt k)) ≡ true
+    → (b ≡ false → f k resting ≡ true)
     → f k (stageAt k) ≡ true
 placed-where f k true h e far = every-at 23 (λ k. f k (stageAt k)) k e (ltb-true k 23 h)
 placed-where f k false h e far =
@@ -263,7 +266,8 @@ placed-where f k false h e far =
 pub swap-place : (k : ℕ) → stageAt k ≡ swapping → eqb k 3 ≡ true
 unfolding every
 swap-place k e =
-    implied (isSwapping (stageAt k)) (eqb k 3) (placed-where (λ k st. implies (isSwapping st) (eqb k 3)) k (ltb k 23) refl refl (λ z. refl))
+    implied (isSwapping (stageAt k)) (eqb k 3)
+    (placed-where (λ k st. implies (isSwapping st) (eqb k 3)) k (ltb k 23) refl refl (λ z. refl))
     (rw e refl)
 
 -- the stages that the plain edition has
@@ -274,7 +278,8 @@ plain-stage : (k : ℕ) → hasPlace 0 k ≡ true → isPlainStage (stageAt k) �
 unfolding every hasPlace
 plain-stage k h =
     implied (hasPlace 0 k) (isPlainStage (stageAt k))
-    (placed-where (λ k st. implies (hasPlace 0 k) (isPlainStage st)) k (ltb k 23) refl refl (λ z. or-true (not (hasPlace 0 k)))) h
+    (placed-where (λ k st. implies (hasPlace 0 k) (isPlainStage st)) k (ltb k 23) refl refl
+    (λ z. or-true (not (hasPlace 0 k)))) h
 
 -- in the plain edition nobody fences, and who waits is Locked
 pub plain-fencing : (k : ℕ) → hasPlace 0 k ≡ true → stageAt k ≡ fencing → ⊥
@@ -282,10 +287,12 @@ plain-fencing k h e =
     let t : isPlainStage fencing ≡ true = rw e at (plain-stage k h) in let z : _≡_ {A = ℕ} 0 1 = cc in omega arith
 
 pub plain-wait :
-    (k l : ℕ) (x : Bool) → leb l 3 ≡ true → hasPlace 0 k ≡ true → role (stageAt k) l x ≡ wait → settled (stageAt k) l ≡ true → l ≡ 1
+    (k l : ℕ) (x : Bool) → leb l 3 ≡ true → hasPlace 0 k ≡ true → role (stageAt k) l x ≡ wait
+    → settled (stageAt k) l ≡ true → l ≡ 1
 unfolding every
 plain-wait k l x h p e t =
     eqb-true l 1
     (implied (is (role (stageAt k) l x) wait && settled (stageAt k) l && isPlainStage (stageAt k)) (eqb l 1)
-    (table (λ st l x. implies (is (role st l x) wait && settled st l && isPlainStage st) (eqb l 1)) refl (stageAt k) l x h)
+    (table (λ st l x. implies (is (role st l x) wait && settled st l && isPlainStage st) (eqb l 1)) refl
+    (stageAt k) l x h)
     (rw (same-is (role (stageAt k) l x) wait e, t) (plain-stage k p)))

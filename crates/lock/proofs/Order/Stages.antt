@@ -1,18 +1,18 @@
--- The places grouped by what the arguments about runs say of them: places that no argument tells apart are one stage. And what
--- holds of every stage by looking at each once.
+-- The places grouped by what the arguments about runs say of them: places that no argument tells apart are one stage.
+-- And what holds of every stage by looking at each once.
 --     Stage, stageOf, stageAt      the groups, the group of a place, and of a place's number
 --     stage-far                    a number that is no place
 --     stage-by                     a test of a stage that computes to true at each of them holds of any
---     implies                      a test that follows from another
 use Prim.Native.Nat.{ℕ, _≤_}
-use mathlib.Core.Path.{_≡_, refl, ap}
-use mathlib.Core.Bool.{Bool, true, false, not, _||_}
-use mathlib.Core.List.{List, [], _∷_}
+use mathlib.Core.Path.{_≡_, ap}
+use mathlib.Core.Bool.{Bool, true}
+use mathlib.Core.List.{[], _∷_}
 use lib.ListN.{getD, List·getD-eq-default}
 use lib.Dec.{lit<}
 use Rattle.lock.specs.Choice.{every}
 use Rattle.lock.specs.Table.{Place, placeAt, rest, gate, clear, swap, arm, link, claim, spin, settle, inside, poll, service, back, regain, look, close, await, hand, fence, park, peek, take, lift, nowhere}
 use Rattle.lock.proofs.Order.Calls.{every-at}
+pub use Rattle.lock.proofs.Order.Choices.{implies, implied}
 
 pub data Stage : Type 0 where
   resting clearing swapping arming linking claiming spinning settling holding serving regaining handing fencing parking peeking taking lifting : Stage
@@ -83,11 +83,3 @@ stage-by f e parking = every-at 17 (λ i. f (stages i)) 13 e (lit< tt)
 stage-by f e peeking = every-at 17 (λ i. f (stages i)) 14 e (lit< tt)
 stage-by f e taking = every-at 17 (λ i. f (stages i)) 15 e (lit< tt)
 stage-by f e lifting = every-at 17 (λ i. f (stages i)) 16 e (lit< tt)
-
--- the second test holds where the first does
-abbrev pub implies : Bool → Bool → Bool
-implies a b = not a || b
-
-pub implied : (a b : Bool) → implies a b ≡ true → a ≡ true → b ≡ true
-implied true b e h = e
-implied false b e h = cc

@@ -1,6 +1,6 @@
--- The invariant behind demand 3: the lock refines a ticket lock. Joins are numbered; the queue is always a contiguous run of
--- numbers, from gone up to count, and only the one at the front is served. Every clause speaks of one row, through ghosts that
--- name who made a join and who fences a row.
+-- The invariant behind demand 3: the lock refines a ticket lock. Joins are numbered; the queue is always a contiguous
+-- run of numbers, from gone up to count, and only the one at the front is served. Every clause speaks of one row,
+-- through ghosts that name who made a join and who fences a row.
 --     Ghost            what the proof remembers beside the tickets
 --     Books            what holds of tickets, ghost and tail alone
 --     Queued, Away     to be in the queue, and not to be in it
@@ -23,8 +23,9 @@ use Rattle.lock.proofs.Order.Stages.{Stage, stageAt}
 use Rattle.lock.proofs.Order.Roles.{Role, out, raw, wait, tok, rel, lag, role, settled, joining, isSwapping, fences, isTaking, isOpen, isLifting, isLeft}
 
 pub record Ghost : Type 0 where
-  -- how many joins have gone from the front of the queue; how many have had the lock given to them: as many, or one more
+  -- how many joins have gone from the front of the queue
   pub gone : ℕ
+  -- how many have been given the lock: as many, or one more
   pub served : ℕ
   -- who made join i
   pub who : ℕ → ℕ
@@ -59,12 +60,14 @@ upd-back f y v q x d e = by-test (eqb x y) refl
 
 -- t is the tail
 pub record Books (g : Tickets) (G : Ghost) (t : ℕ) : Type 0 where
+  -- one goes only after it has joined, and one at most is served before the next goes
   pub low : G .gone ≤ g .count
   pub least : G .gone ≤ G .served
   pub most : G .served ≤ suc (G .gone)
   -- each join still in the queue is its maker's latest
   pub known : (i : ℕ) → G .gone ≤ i → i < g .count → g .latest (G .who i) ≡ i
   pub past : (q : ℕ) → g .latest q ≤ g .count
+  -- no tail: nobody is in the queue; otherwise the tail made the last join
   pub empty : t ≡ none → G .gone ≡ g .count
   pub last : t ≢ none → (G .gone < g .count) × ((i : ℕ) → suc i ≡ g .count → t ≡ G .who i)
 
@@ -85,27 +88,32 @@ pub record Queued (g : Tickets) (G : Ghost) (q next : ℕ) : Type 0 where
 abbrev pub Away : Tickets → Ghost → ℕ → Type 0
 Away g G q = G .gone ≤ g .latest q → g .latest q < g .count → G .who (g .latest q) ≡ q → ⊥
 
+-- joined, and not yet named by the row before it: somebody is before it
 pub record Raw (g : Tickets) (G : Ghost) (q next : ℕ) : Type 0 where
   pub queued : Queued g G q next
   pub unlinked : G .linked (g .latest q) ≡ false
   pub later : G .gone < g .latest q
   pub behind : G .served ≤ g .latest q
 
+-- linked, and not yet given the lock
 pub record Wait (g : Tickets) (G : Ghost) (q next : ℕ) : Type 0 where
   pub queued : Queued g G q next
   pub done : G .linked (g .latest q) ≡ true
   pub behind : G .served ≤ g .latest q
 
+-- given the lock, so at the front
 pub record Tok (g : Tickets) (G : Ghost) (q next : ℕ) : Type 0 where
   pub queued : Queued g G q next
   pub first : g .latest q < G .served
 
+-- has the lock, out of the queue, and hands it on to the front, which is linked; only one does
 pub record Rel (g : Tickets) (G : Ghost) (q heir : ℕ) : Type 0 where
   pub away : Away g G q
   pub handing : G .served ≡ G .gone
   pub only : q ≡ G .releaser
   pub front : Linked g G (G .gone) heir
 
+-- has parked the lock on its succ, which it fences
 pub record Lag (g : Tickets) (G : Ghost) (q succ : ℕ) : Type 0 where
   pub away : Away g G q
   pub fenced : G .fencer succ ≡ suc q
@@ -139,18 +147,26 @@ pub record Fenced (lagged : Bool) (peeked l next : ℕ) (guard : Bool) : Type 0 
   pub still : lagged ≡ true → isLeft l ≡ true
   pub kept : peeked ≢ none → next ≡ peeked
 
--- e is the edition, q the processor, then its row's cells
+-- e is the edition, q the processor, then its row's stage and cells; the heir is nx at 22, otherwise succ
 pub record Fit (e : ℕ) (g : Tickets) (G : Ghost) (q : ℕ) (st : Stage) (l next pred succ nx : ℕ) (guard : Bool) : Type 0 where
+  -- locked by place
   pub small : leb l 3 ≡ true
   pub settles : settled st l ≡ true
+  -- the queue, by role
   pub duty : Duty (role st l (isNone nx)) g G q next succ (pick (isLifting st) nx succ)
+  -- 4 to 6: the pred made the join before
   pub joins : given (joining st) ((i : ℕ) → suc i ≡ g .latest q → G .gone ≤ i → pred ≡ G .who i)
+  -- 3: the next is none
   pub blank : given (isSwapping st) (next ≡ none)
+  -- 19 to 22: the succ is fenced
   pub fencing : Fencing (fences st) (G .fencer) q succ
+  -- 21: nx is what was peeked at
   pub peeking : given (isTaking st) ((G .peeked succ ≡ nx) × (nx ≢ none))
+  -- a set guard: not at 2 to 5, not in the plain edition, and somebody fences the row
   pub shut : guard ≡ true → isOpen st ≡ true
-  pub fenced : G .fencer q ≢ 0 → Fenced (G .lagged q) (G .peeked q) l next guard
   pub manned : guard ≡ true → (e ≢ 0) × (G .fencer q ≢ 0)
+  -- what a fence on this row keeps
+  pub fenced : G .fencer q ≢ 0 → Fenced (G .lagged q) (G .peeked q) l next guard
 
 abbrev pub FitRow : ℕ → Tickets → Ghost → ℕ → Row → Type 0
 FitRow e g G q r = Fit e g G q (stageAt (r .place)) (r .locked) (r .next) (r .pred) (r .succ) (r .nx) (r .guard)

@@ -1,27 +1,29 @@
--- Places 20 to 22, of who has parked the lock on a fenced row: it peeks at that row's next, takes the lock back if it is still
--- parked there and goes on to hand it to the next, and lifts the fence.
-use Prim.Native.Nat.{ℕ, suc, _<_, _≤_}
+-- Places 20 to 22, of who has parked the lock on a fenced row: it peeks at that row's next, takes the lock back if it
+-- is still parked there and goes on to hand it to the next, and lifts the fence.
+use Prim.Native.Nat.{ℕ, suc, _<_}
 use mathlib.Core.Path.{_≡_, refl, sym, ap, subst, _∙_}
-use mathlib.Core.Bool.{Bool, true, false, not}
+use mathlib.Core.Bool.{Bool, true, false}
 use mathlib.Core.Logic.{_≢_}
 use native.Mathlib.Omega.{arith}
-use lib.Dec.{eqb, leb}
+use lib.Dec.{eqb}
 use lib.ListN.{length}
-use borrow.Author.Tests.{eqb-true, eqb-false, ne-eqb, not-true}
+use borrow.Author.Tests.{eqb-false, ne-eqb}
 use Rattle.lock.specs.declared.Row.{Row}
 use Rattle.lock.specs.declared.LockState.{LockState}
 use Rattle.lock.specs.Choice.{pick}
 use Rattle.lock.specs.State.{none, isNone, isDrawn, Released, RP, withLocked, withGuard, withPlace, withSucc, withNx, row, putRow, putLocked, putGuard, to, putSucc, putNx}
 use Rattle.lock.specs.Acts as Acts
+use Rattle.lock.proofs.Order.Choices.{clash, by-test}
 use Rattle.lock.proofs.Rows.{row-put-other}
 use Rattle.lock.proofs.Order.Tickets.{Tickets}
-use Rattle.lock.proofs.Order.Writes.{by-same, Own, own-start, own-put, Both, both-start, both-own, both-near, row-there}
-use Rattle.lock.proofs.Order.Stages.{Stage, peeking, taking, lifting, stageAt}
-use Rattle.lock.proofs.Order.Roles.{Role, rel, lag, role, joining, fences, isTaking, isOpen, isLifting, parked-out, parked-settled, taking-lag}
-use Rattle.lock.proofs.Order.Statement.{Ghost, upd, upd-same, upd-other, upd-back, Books, Linked, Queued, Away, Raw, Wait, Tok, Rel, Lag, Duty, given-map, Fencing, Fenced, Fit, FitRow, Holds}
-use Rattle.lock.proofs.Order.Carry.{clash, passed, refenced, refence-books, pass-fit, fenced-same, manned-same, fencing-map, refence, refence-fit}
+use Rattle.lock.proofs.Order.Writes.{by-same, own-start, own-put, Both, both-start, both-own, both-near, row-there}
+use Rattle.lock.proofs.Order.Stages.{peeking, taking, lifting, stageAt}
+use Rattle.lock.proofs.Order.Roles.{lag, joining, fences, isOpen, isLifting, parked-out, parked-settled, taking-lag}
+use Rattle.lock.proofs.Order.Statement.{Ghost, upd, upd-same, upd-other, upd-back, Books, Linked, Rel, Lag, given-map, Fencing, Fenced, Fit, FitRow, Holds}
+use Rattle.lock.proofs.Order.Carry.{passed, refenced, refence-books, pass-fit, fenced-same, manned-same, fencing-map, refence, refence-fit}
 use Rattle.lock.proofs.Order.Near.{duty-as, served-first, pop-asks, parked-tok-at}
-use Rattle.lock.proofs.Order.Quiet.{own-holds, both-holds, by-test, free-fit, relock, ordered-drawn, mine, lag-on}
+use Rattle.lock.proofs.Order.Build.{own-holds, both-holds, free-fit, relock}
+use Rattle.lock.proofs.Order.Quiet.{ordered-drawn, mine, lag-on}
 
 module _ (s : LockState) (g : Tickets) (p : ℕ) (v : Holds s g) (room : p < length (s .rows)) where
   abbrev R : Row
@@ -67,7 +69,8 @@ module _ (s : LockState) (g : Tickets) (p : ℕ) (v : Holds s g) (room : p < len
       let fq = v .fits q in
       refence-fit g G (G .fencer) (G .lagged) Z (λ k. (k .fenced, k .parked)) (λ w. w)
       (λ k w.
-      let la : Lag g G q (r .succ) = duty-as s g v q (taking-lag (stageAt (r .place)) (r .locked) (isNone (r .nx)) (fq .small) k) in
+      let la : Lag g G q (r .succ) = duty-as s g v q
+      (taking-lag (stageAt (r .place)) (r .locked) (isNone (r .nx)) (fq .small) k) in
       (upd-other (G .peeked) y (Y .next) (r .succ) (not-mine (on .0) q (r .succ) a (la .fenced)) ∙ w .0, w .1))
       (fq .shut) (peeked q) (fq .manned) fq))
     where
@@ -84,11 +87,18 @@ module _ (s : LockState) (g : Tickets) (p : ℕ) (v : Holds s g) (room : p < len
       Z = upd (G .peeked) y (Y .next)
 
       -- the peeked row keeps its next from now on
-      peeked : (q : ℕ) → G .fencer q ≢ 0 → Fenced (G .lagged q) (Z q) ((row s q) .locked) ((row s q) .next) ((row s q) .guard)
+      peeked :
+          (q : ℕ) → G .fencer q ≢ 0
+          → Fenced (G .lagged q) (Z q) ((row s q) .locked) ((row s q) .next) ((row s q) .guard)
       peeked =
           by-same
           (λ q. G .fencer q ≢ 0 → Fenced (G .lagged q) (Z q) ((row s q) .locked) ((row s q) .next) ((row s q) .guard)) y
-          (λ k. let w = (v .fits y) .fenced k in record { set = w .set; still = w .still; kept = λ n. sym (upd-same (G .peeked) y (Y .next)) })
+          (λ k. let w = (v .fits y) .fenced k in record {
+            set = w .set;
+            still = w .still;
+            kept = λ n. sym
+                (upd-same (G .peeked) y (Y .next));
+          })
           (λ q b.
           fenced-same G (G .fencer) (G .lagged) Z q ((row s q) .locked) ((row s q) .next) ((row s q) .guard) refl refl
           (upd-other (G .peeked) y (Y .next) q b) ((v .fits q) .fenced))
@@ -114,7 +124,8 @@ module _ (s : LockState) (g : Tickets) (p : ℕ) (v : Holds s g) (room : p < len
       let below = c .below in
       let some : isNone (R .nx) ≡ false = ne-eqb (R .nx) none (saw .1) in
       both-holds v (passed G (suc (G .gone)) (G .served) (G .linked) p)
-      (both-own (λ r. withPlace r 22) (both-near (λ r. withLocked r Released) (both-start s p y (λ z. on .1 (sym z)) room (w .2)))) refl
+      (both-own (λ r. withPlace r 22)
+      (both-near (λ r. withLocked r Released) (both-start s p y (λ z. on .1 (sym z)) room (w .2)))) refl
       (record {
         low = omega arith;
         least = omega arith;
@@ -157,7 +168,8 @@ module _ (s : LockState) (g : Tickets) (p : ℕ) (v : Holds s g) (room : p < len
       })
       (λ q a b.
       pass-fit g G (suc (G .gone)) (G .served) (G .linked) p (omega arith) (λ i z. z)
-      (pop-asks s g v y (Y .next) p (w .0) (λ q next k z. clash (ap (G .linked) z ∙ done) (k .unlinked)) q ((row s q) .next)
+      (pop-asks s g v y (Y .next) p (w .0) (λ q next k z. clash (ap (G .linked) z ∙ done) (k .unlinked)) q
+      ((row s q) .next)
       (pick (isLifting (stageAt ((row s q) .place))) ((row s q) .nx) ((row s q) .succ)) b)
       (v .fits q))
 
@@ -167,16 +179,20 @@ module _ (s : LockState) (g : Tickets) (p : ℕ) (v : Holds s g) (room : p < len
       let f = mine s g p v room e in
       by-test (λ t. Holds t g) (eqb (Y .locked) RP)
       (λ h.
-      by-test (λ t. Holds t g) (isDrawn (s .edition)) (λ b. clash b (ordered-drawn (s .edition) (v .ordered))) (λ b. taken e h))
+      by-test (λ t. Holds t g) (isDrawn (s .edition)) (λ b. clash b (ordered-drawn (s .edition) (v .ordered)))
+      (λ b. taken e h))
       (λ h. lag-on s g p v room (f .duty) (f .settles) (f .fencing) none refl)
 
   -- y's guard is clear again: no other fences it
   lifted :
-      {t : LockState} {r : Row} → Fencing true (G .fencer) p y → Both s t p y r (withGuard Y false) → t .edition ≡ s .edition
-      → t .tail ≡ s .tail → FitRow (s .edition) g (refenced G (upd (G .fencer) y 0) (G .lagged) (G .peeked)) p r → Holds t g
+      {t : LockState} {r : Row} → Fencing true (G .fencer) p y → Both s t p y r (withGuard Y false)
+      → t .edition ≡ s .edition
+      → t .tail ≡ s .tail → FitRow (s .edition) g (refenced G (upd (G .fencer) y 0) (G .lagged) (G .peeked)) p r
+      → Holds t g
   lifted {t} on o ed tl own =
       both-holds v (refenced G F (G .lagged) (G .peeked)) o ed
-      (subst (λ (z : ℕ). Books g (refenced G F (G .lagged) (G .peeked)) z) (sym tl) (refence-books F (G .lagged) (G .peeked) (v .books))) own
+      (subst (λ (z : ℕ). Books g (refenced G F (G .lagged) (G .peeked)) z) (sym tl)
+      (refence-books F (G .lagged) (G .peeked) (v .books))) own
       (other y (on .1) false (λ k. clash k refl) (λ k. absurd (k (upd-same (G .fencer) y 0))) (λ k. clash k refl))
       (λ q a b.
       other q a ((row s q) .guard) ((v .fits q) .shut)
@@ -210,7 +226,8 @@ module _ (s : LockState) (g : Tickets) (p : ℕ) (v : Holds s g) (room : p < len
       (by-test (λ t. Holds t g) (isNone (R .nx))
       (λ h.
       let d : Lag g G p y = rw h at (f .duty) in
-      lifted on (both-own (λ r. withPlace r 0) base) refl refl (free-fit refl (f .small) (f .settles) (d .away) own-fenced own-manned idle))
+      lifted on (both-own (λ r. withPlace r 0) base) refl refl
+      (free-fit refl (f .small) (f .settles) (d .away) own-fenced own-manned idle))
       (λ h.
       let d : Rel g G p (R .nx) = rw h at (f .duty) in
       lifted on (both-own (λ r. withPlace r 17) (both-own (λ r. withSucc r (R .nx)) base)) refl refl
@@ -239,7 +256,8 @@ module _ (s : LockState) (g : Tickets) (p : ℕ) (v : Holds s g) (room : p < len
       near =
           row-there s y
           (λ k.
-          clash (sym (ap (λ (r : Row). r .guard) k) ∙ ((v .fits y) .fenced (λ n. let z : suc p ≡ 0 = sym (on .0) ∙ n in omega arith)) .set) refl)
+          clash (sym (ap (λ (r : Row). r .guard) k) ∙
+          ((v .fits y) .fenced (λ n. let z : suc p ≡ 0 = sym (on .0) ∙ n in omega arith)) .set) refl)
 
       base : Both s t p y R (withGuard Y false)
       base = both-near (λ r. withGuard r false) (both-start s p y apart room near)
@@ -256,5 +274,6 @@ module _ (s : LockState) (g : Tickets) (p : ℕ) (v : Holds s g) (room : p < len
       -- p fences nobody any more
       idle : (x : ℕ) → upd (G .fencer) y 0 x ≢ suc p
       idle =
-          by-same (λ x. upd (G .fencer) y 0 x ≢ suc p) y (λ k. let z : 0 ≡ suc p = sym (upd-same (G .fencer) y 0) ∙ k in omega arith)
+          by-same (λ x. upd (G .fencer) y 0 x ≢ suc p) y
+          (λ k. let z : 0 ≡ suc p = sym (upd-same (G .fencer) y 0) ∙ k in omega arith)
           (λ x d k. d (on .2 x (sym (upd-other (G .fencer) y 0 x d) ∙ k)))

@@ -8,11 +8,10 @@
 --     put-all          the same after a single put, wherever it goes
 --     fresh-row        every row of the fresh state is as fresh
 --     row-there        a row that is not as fresh is one of the state's rows
-use Prim.Native.Nat.{ℕ, _<_, _≤_}
+use Prim.Native.Nat.{ℕ, _<_}
 use mathlib.Core.Path.{_≡_, refl, sym, ap, _∙_}
 use mathlib.Core.Bool.{Bool, true, false}
 use mathlib.Core.Logic.{_≢_}
-use native.Mathlib.Omega.{arith}
 use lib.Dec.{eqb, ltb}
 use lib.ListN.{length, replicate, getD-replicate, List·getD-eq-default}
 use lib.Seq.{set-out}
@@ -33,7 +32,8 @@ pub own-start : (s : LockState) (p : ℕ) → p < length (s .rows) → Own s s p
 own-start s p h = record { room = h; rooms = refl; own = refl; others = λ q d. refl }
 
 -- a further put to p's row, which reads the row anew
-pub own-put : {s t : LockState} {p : ℕ} {r : Row} (w : Row → Row) → Own s t p r → Own s (putRow t p (w (row t p))) p (w r)
+pub own-put :
+    {s t : LockState} {p : ℕ} {r : Row} (w : Row → Row) → Own s t p r → Own s (putRow t p (w (row t p))) p (w r)
 own-put {s} {t} {p} {r} w o =
     record {
       room = rw rows-put (o .room);
@@ -56,11 +56,14 @@ pub record Both (s t : LockState) (p y : ℕ) (r x : Row) : Type 0 where
   pub near : row t y ≡ x
   pub others : (q : ℕ) → q ≢ p → q ≢ y → row t q ≡ row s q
 
-pub both-start : (s : LockState) (p y : ℕ) → p ≢ y → p < length (s .rows) → y < length (s .rows) → Both s s p y (row s p) (row s y)
+pub both-start :
+    (s : LockState) (p y : ℕ) → p ≢ y → p < length (s .rows) → y < length (s .rows) → Both s s p y (row s p) (row s y)
 both-start s p y d h l =
     record { apart = d; room = h; near-room = l; rooms = refl; own = refl; near = refl; others = λ q a b. refl }
 
-pub both-own : {s t : LockState} {p y : ℕ} {r x : Row} (w : Row → Row) → Both s t p y r x → Both s (putRow t p (w (row t p))) p y (w r) x
+pub both-own :
+    {s t : LockState} {p y : ℕ} {r x : Row} (w : Row → Row) → Both s t p y r x
+    → Both s (putRow t p (w (row t p))) p y (w r) x
 both-own {s} {t} {p} {y} w o =
     record {
       apart = o .apart;
@@ -72,7 +75,9 @@ both-own {s} {t} {p} {y} w o =
       others = λ q a b. row-put-other t p (w (row t p)) q a ∙ o .others q a b;
     }
 
-pub both-near : {s t : LockState} {p y : ℕ} {r x : Row} (w : Row → Row) → Both s t p y r x → Both s (putRow t y (w (row t y))) p y r (w x)
+pub both-near :
+    {s t : LockState} {p y : ℕ} {r x : Row} (w : Row → Row) → Both s t p y r x
+    → Both s (putRow t y (w (row t y))) p y r (w x)
 both-near {s} {t} {p} {y} w o =
     record {
       apart = o .apart;
@@ -103,11 +108,13 @@ pub both-all :
     → ((q : ℕ) → q ≢ p → q ≢ y → F q (row s q)) → (q : ℕ) → F q (row t q)
 both-all F {s} {t} {p} {y} o mine near theirs =
     by-same (λ q. F q (row t q)) p (rw (o .own) mine)
-    (λ q d. by-same (λ q. q ≢ p → F q (row t q)) y (λ e. rw (o .near) near) (λ q c d. rw (o .others q d c) (theirs q d c)) q d)
+    (λ q d. by-same (λ q. q ≢ p → F q (row t q)) y (λ e. rw (o .near) near)
+    (λ q c d. rw (o .others q d c) (theirs q d c)) q d)
 
 -- the single put, by whether there is such a row
 put-where :
-    (F : ℕ → Row → Type 0) (s : LockState) (y : ℕ) (r : Row) (b : Bool) → ltb y (length (s .rows)) ≡ b → ((q : ℕ) → F q (row s q)) → F y r
+    (F : ℕ → Row → Type 0) (s : LockState) (y : ℕ) (r : Row) (b : Bool) → ltb y (length (s .rows)) ≡ b
+    → ((q : ℕ) → F q (row s q)) → F y r
     → (q : ℕ) → F q (row (putRow s y r) q)
 unfolding row putRow
 put-where F s y r true e all new =

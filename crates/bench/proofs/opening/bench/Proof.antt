@@ -8,8 +8,8 @@ use denote.Ref.{now}
 use lib.ListN.{length}
 use borrow.Author.Needs.{needs}
 use borrow.Author.Tests.{ltb-false}
-use Rattle.frame.specs.Reading.{reads}
-use Rattle.bench.specs.Log.{refusedAt, opened}
+use Rattle.bench.specs.Log.{refusedAt}
+use Rattle.bench.specs.Steps.{openedLog}
 use Rattle.bench.proofs.Sizes.{refusal-size}
 use Rattle.bench.proofs.FirstLine.{leaves-fills}
 use Rattle.bench.proofs.Whole.{is-short, is-logged, is-long, is-opened, has-room, long-room}
@@ -55,7 +55,7 @@ returns-3 c =
     let r = t .before .before in
     let a = start-of r .args in
     is-logged (now (a .schedule)) (now (a .out)) (r .room-for .result) (r .room-for .ensures) (t .before .if1 .left)
-    (opened (now (a .schedule)) (reads (now (a .schedule)) true)) (is-opened (now (a .schedule)) (t .if2 .left))
+    (openedLog (now (a .schedule))) (is-opened (now (a .schedule)) (t .if2 .left))
     (o .«open» .result) (o .«open» .ensures .0) (o .«open» .last .0) (o .«open» .ensures .1)
 
 pub bench-spec : {M : Type 1} → statement M

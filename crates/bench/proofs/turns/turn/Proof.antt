@@ -5,7 +5,7 @@ use borrow.Author.Needs.{needs}
 use denote.Ref.{now}
 use Rattle.frame.specs.Reading.{told, reads, refusedBy}
 use Rattle.frame.specs.Writing.{leaves}
-use Rattle.bench.specs.Turned.{turned}
+use Rattle.bench.specs.Steps.{turned}
 use Rattle.bench.proofs.Told.{turn-answers, turn-refuses}
 use Rattle.bench.proofs.turns.turn.Statement.{statement}
 use Rattle.bench.proofs.turns.turn.Tie as tie

@@ -1,0 +1,28 @@
+-- The statements of `specs/Laws.antt` and `specs/Bridge.antt`, each with its proof.
+-- Assumes nothing.
+use native.Mathlib.Omega.{arith}
+use mathlib.Core.Path.{sym, _∙_}
+use lib.ListN.{length}
+use Rattle.bench.specs.Laws.{FuelDoesNotMatter, LogFitsItsRoom, OnlyOneAnswerFits}
+use Rattle.bench.specs.Bridge.{AcceptedLogIsARun, RowsFollowTheRun, EntryMarkIsAnEntry}
+use Rattle.bench.proofs.Fuel.{fuel-same}
+use Rattle.bench.proofs.Room.{log-fits}
+use Rattle.bench.proofs.Along.{log-is-run, rows-follow, entry-mark}
+
+pub fuel-does-not-matter : FuelDoesNotMatter
+fuel-does-not-matter fuel s accepted text h = fuel-same fuel (length text) s accepted text h (omega arith)
+
+pub log-fits-its-room : LogFitsItsRoom
+log-fits-its-room text = log-fits text
+
+pub only-one-answer-fits : OnlyOneAnswerFits
+only-one-answer-fits text out r s after kept p f q g = (p ∙ sym q, f ∙ sym g)
+
+pub accepted-log-is-a-run : AcceptedLogIsARun
+accepted-log-is-a-run text h = log-is-run text h
+
+pub rows-follow-the-run : RowsFollowTheRun
+rows-follow-the-run s before c = rows-follow s before c
+
+pub entry-mark-is-an-entry : EntryMarkIsAnEntry
+entry-mark-is-an-entry s c h = entry-mark s c h

@@ -1,0 +1,35 @@
+-- The words in which the contracts of the inner functions say what the definitions of Log say. Their lines stand in the lent
+-- buffer, so they hand on a line's length in its place.
+use Prim.Native.Nat.{ℕ, _+_, _*_, _/_}
+use mathlib.Core.Bool.{true}
+use mathlib.Core.List.{List, _++_}
+use lib.ListN.{length, drop}
+use Rattle.lock.specs.declared.LockState.{LockState}
+use Rattle.lock.specs.Event.{happens}
+use Rattle.frame.specs.Reading.{reads}
+use Rattle.bench.specs.declared.turns.Turned.{Turned}
+use Rattle.bench.specs.Log.{Turn, answered, logFrom, opened}
+
+-- a turn with its bytes counted
+abbrev pub turned : Turn → Turned
+turned t = record { more = t .goesOn; length = length (t .written); state = t .next }
+
+-- the bytes in a buffer's first bytes, and every byte after them as it was
+abbrev pub filled : List ℕ → List ℕ → List ℕ
+filled bytes buffer = bytes ++ drop (length bytes) buffer
+
+-- the turn of an event
+abbrev pub eventTurn : LockState → ℕ → ℕ → ℕ → Turn
+eventTurn s line event p = answered s line event p (happens s event p)
+
+-- the log of the later lines, where none was accepted before
+abbrev pub laterLog : LockState → List ℕ → List ℕ
+laterLog s text = logFrom (length text) s 0 text
+
+-- the log of a schedule that is not too long
+abbrev pub openedLog : List ℕ → List ℕ
+openedLog text = opened text (reads text true)
+
+-- the room that lines need: 17 bytes for each whole one, and 11 for the refusal of what follows them
+abbrev pub linesRoom : List ℕ → ℕ
+linesRoom text = 17 * (length text / 9) + 11

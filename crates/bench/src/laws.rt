@@ -1,0 +1,34 @@
+// The laws of logs as contracts: an empty function promises each, so that a check names it. The statements are those of
+// `specs/Laws.antt` and `specs/Bridge.antt`; nobody needs to call these.
+ghost use Rattle.bench.specs.Laws.{FuelDoesNotMatter, LogFitsItsRoom, OnlyOneAnswerFits};
+ghost use Rattle.bench.specs.Bridge.{AcceptedLogIsARun, RowsFollowTheRun, EntryMarkIsAnEntry};
+
+// The bound on the lines in the definition of a log changes nothing.
+pub fn fuel_does_not_matter()
+    ensures { λ _. ⌜ FuelDoesNotMatter ⌝ }
+{}
+
+// The room that is asked for is enough.
+pub fn log_fits_its_room()
+    ensures { λ _. ⌜ LogFitsItsRoom ⌝ }
+{}
+
+// Two answers that meet the contract of the bench are one.
+pub fn only_one_answer_fits()
+    ensures { λ _. ⌜ OnlyOneAnswerFits ⌝ }
+{}
+
+// The log of a schedule with no refusal is line 1, the rows along its run, and the number of its calls.
+pub fn accepted_log_is_a_run()
+    ensures { λ _. ⌜ AcceptedLogIsARun ⌝ }
+{}
+
+// The row after each call shows the state that the run has then.
+pub fn rows_follow_the_run()
+    ensures { λ _. ⌜ RowsFollowTheRun ⌝ }
+{}
+
+// The entry mark is given exactly where the call is an entry.
+pub fn entry_mark_is_an_entry()
+    ensures { λ _. ⌜ EntryMarkIsAnEntry ⌝ }
+{}
