@@ -23,8 +23,10 @@ use Rattle.lock.specs.State.{processors, freshState, row}
 use Rattle.lock.specs.Event.{fresh, happens, isStep, accepted, refused, filler}
 use Rattle.lock.specs.Run.{Call, after, run, stepsOf, enters}
 use Rattle.frame.specs.Reading.{reads, restOf}
-use Rattle.bench.specs.Log.{Turn, longest, counted, marks, shown, second, third, answered, followed, turnOf, logFrom, begun, opened, logOf}
-use Rattle.bench.specs.Bridge.{callOf, callsFrom, callsOf, rowsOf, areRead, areAccepted, editionOf, processorsOf, firstState, Accepted, EntryMark}
+use Rattle.bench.specs.Log.{Turn, longest, counted, marks, shown, second, third}
+use Rattle.bench.specs.Log.{answered, followed, turnOf, logFrom, begun, opened, logOf}
+use Rattle.bench.specs.Bridge.{callOf, callsFrom, callsOf, rowsOf, areRead, areAccepted}
+use Rattle.bench.specs.Bridge.{editionOf, processorsOf, firstState, Accepted, EntryMark}
 
 both : (a b : Bool) → a && b ≡ true → (a ≡ true) × (b ≡ true)
 both true b e = (refl, e)
@@ -41,7 +43,8 @@ turn-is : (s : LockState) (line : ℕ) (text : List ℕ) → eqb (reads text fal
 unfolding turnOf followed answered after
 turn-is s line text e f = simp (e, f)
 
-pub later-is-run : (fuel : ℕ) (s : LockState) (k : ℕ) (text : List ℕ) → areRead fuel text ≡ true → areAccepted s (callsFrom fuel text) ≡ true →
+pub later-is-run : (fuel : ℕ) (s : LockState) (k : ℕ) (text : List ℕ) → areRead fuel text ≡ true →
+    areAccepted s (callsFrom fuel text) ≡ true →
     logFrom fuel s k text ≡ rowsOf s (callsFrom fuel text) ++ counted (k + length (callsFrom fuel text))
 unfolding logFrom areRead areAccepted callsFrom rowsOf
 later-is-run zero s k text e f = ap counted (omega arith)
@@ -50,15 +53,19 @@ later-is-run (suc fuel) s k (b ∷ text) e f =
     let t = b ∷ text in
     let c = callOf t in
     let read = both (eqb (reads t false .refusal) 0) (areRead fuel (restOf t)) e in
-    let taken = both (eqb ((happens s (c .event) (c .processor)) .refusal) 0) (areAccepted (after s c) (callsFrom fuel (restOf t))) f in
+    let taken =
+    both (eqb ((happens s (c .event) (c .processor)) .refusal) 0)
+    (areAccepted (after s c) (callsFrom fuel (restOf t))) f in
     simp (turn-is s (k + 2) t (read .0) (taken .0))
     (ap (λ (l : List ℕ). shown (after s c) (c .event) (c .processor) ++ l)
     (later-is-run fuel (after s c) (suc k) (restOf t) (read .1) (taken .1)
     ∙ ap (λ (n : ℕ). rowsOf (after s c) (callsFrom fuel (restOf t)) ++ counted n) (omega arith))
-    ∙ sym (append-assoc (shown (after s c) (c .event) (c .processor)) (rowsOf (after s c) (callsFrom fuel (restOf t))) (counted (k + suc (length (callsFrom fuel (restOf t)))))))
+    ∙ sym (append-assoc (shown (after s c) (c .event) (c .processor)) (rowsOf (after s c) (callsFrom fuel (restOf t)))
+    (counted (k + suc (length (callsFrom fuel (restOf t)))))))
 
 -- of the two tests of a fresh state, only their both failing gives 0
-by-two : (six seven : Bool) (a b c : Answer) → a .refusal ≡ 6 → b .refusal ≡ 7 → pick six a (pick seven b c) .refusal ≡ 0 →
+by-two : (six seven : Bool) (a b c : Answer) → a .refusal ≡ 6 → b .refusal ≡ 7 →
+    pick six a (pick seven b c) .refusal ≡ 0 →
     pick six a (pick seven b c) ≡ c
 by-two true seven a b c p q e = absurd (omega arith)
 by-two false true a b c p q e = absurd (omega arith)
@@ -66,13 +73,19 @@ by-two false false a b c p q e = refl
 
 fresh-is : (e n : ℕ) → (fresh e n) .refusal ≡ 0 → fresh e n ≡ accepted (freshState e n)
 unfolding fresh
-fresh-is e n h = by-two (ltb 2 e) (eqb n 0 || ltb processors n) (refused 6 filler) (refused 7 filler) (accepted (freshState e n)) refl refl h
+fresh-is e n h =
+    by-two (ltb 2 e) (eqb n 0 || ltb processors n) (refused 6 filler) (refused 7 filler)
+    (accepted (freshState e n)) refl refl h
 
 pub log-is-run : (text : List ℕ) → Accepted text →
     logOf text ≡ take 9 text ++ (rowsOf (firstState text) (callsOf text) ++ counted (length (callsOf text)))
 unfolding logOf opened begun
 log-is-run text h =
-    simp (le-ltb longest (length text) (h .length-is), eq-eqb (reads text true .refusal) 0 (h .line-is), fresh-is (editionOf text) (processorsOf text) (h .state-is))
+    simp (
+      le-ltb longest (length text) (h .length-is),
+      eq-eqb (reads text true .refusal) 0 (h .line-is),
+      fresh-is (editionOf text) (processorsOf text) (h .state-is),
+    )
     (ap (λ (l : List ℕ). take 9 text ++ l)
     (later-is-run (length text) (firstState text) 0 (restOf text) (h .lines-are) (h .calls-are)
     ∙ ap (λ (n : ℕ). rowsOf (firstState text) (callsOf text) ++ counted n) (omega arith)))

@@ -26,16 +26,18 @@ use Rattle.bench.proofs.Sizes.{count-size, GoesOn, Stops, turn-size}
 use Rattle.bench.proofs.Fuel.{thenMore, log-ends, log-turns}
 use Rattle.bench.proofs.Parts.{Put, put, filled-by}
 
--- Where the loop stands: `out` was `buffer`, `at` bytes of it are written, and the log of `text` from the state `first` on is
--- what is written and what is still to come.
-pub record Carried (text : List ℕ) (first : LockState) (buffer out rest : List ℕ) (s : LockState) (accepted at : ℕ) : Type 0 where
+-- Where the loop stands: `out` was `buffer`, `at` bytes of it are written, and the log of `text` from the state
+-- `first` on is what is written and what is still to come.
+pub record Carried (text : List ℕ) (first : LockState) (buffer out rest : List ℕ) (s : LockState)
+    (accepted at : ℕ) : Type 0 where
   pub long : length out ≡ length buffer
   pub room : at + linesRoom rest ≤ length buffer
   pub kept : drop at out ≡ drop at buffer
   pub log : take at out ++ logFrom (length rest) s accepted rest ≡ laterLog first text
   pub fewer : accepted + length rest ≤ length text
 
-pub begins : (text : List ℕ) (s : LockState) (buffer : List ℕ) → linesRoom text ≤ length buffer → Carried text s buffer buffer text s 0 0
+pub begins : (text : List ℕ) (s : LockState) (buffer : List ℕ) → linesRoom text ≤ length buffer →
+    Carried text s buffer buffer text s 0 0
 begins text s buffer h = record { long = refl; room = omega arith; kept = refl; log = refl; fewer = omega arith }
 
 -- what is as it was from a place on is so from a later place on
@@ -56,7 +58,8 @@ module _ (text : List ℕ) (first : LockState) (buffer out rest : List ℕ) (s :
       (p .front ∙ ap (λ (l : List ℕ). take at out ++ l) (sym is) ∙ i .log)
       (p .kept ∙ further at (length line) out buffer (i .kept))
 
-  pub count-ends : (last : List ℕ) → length rest ≤ 0 → last ≡ leaves (counted accepted) (midOf at (length out - at) out) →
+  pub count-ends : (last : List ℕ) → length rest ≤ 0 →
+      last ≡ leaves (counted accepted) (midOf at (length out - at) out) →
       (at + 9 ≡ length (laterLog first text))
       × (putMid at (length out - at) out last ≡ filled (laterLog first text) buffer)
   count-ends last none e =
@@ -65,7 +68,8 @@ module _ (text : List ℕ) (first : LockState) (buffer out rest : List ℕ) (s :
 
   pub count-long : (last : List ℕ) → last ≡ leaves (counted accepted) (midOf at (length out - at) out) →
       length (putMid at (length out - at) out last) ≡ length buffer
-  count-long last e = put at out (counted accepted) last (omega (arith, count-size accepted, i .room, i .long)) e .long ∙ i .long
+  count-long last e = put at out (counted accepted) last
+      (omega (arith, count-size accepted, i .room, i .long)) e .long ∙ i .long
 
   module _ (some : 0 < length rest) where
     -- a turn that goes on has read nine bytes and writes 17, and one that stops writes 11
@@ -86,7 +90,8 @@ module _ (text : List ℕ) (first : LockState) (buffer out rest : List ℕ) (s :
       pub turn-room : at + r .length ≤ length out
       turn-room = rw size-is turn-fits
 
-      module _ (last : List ℕ) (f : last ≡ leaves ((turnOf s (accepted + 2) rest) .written) (midOf at (length out - at) out)) where
+      module _ (last : List ℕ)
+          (f : last ≡ leaves ((turnOf s (accepted + 2) rest) .written) (midOf at (length out - at) out)) where
         is-put : Put at out ((turnOf s (accepted + 2) rest) .written) (putMid at (length out - at) out last)
         is-put = put at out ((turnOf s (accepted + 2) rest) .written) last turn-fits f
 
@@ -99,11 +104,13 @@ module _ (text : List ℕ) (first : LockState) (buffer out rest : List ℕ) (s :
         turn-stops stop =
             let t = turnOf s (accepted + 2) rest in
             let so : t .goesOn ≡ false = sym more-is ∙ stop in
-            let last-line : logFrom (length rest) s accepted rest ≡ t .written = log-turns s accepted rest some ∙ simp (so, append-nil) in
+            let last-line : logFrom (length rest) s accepted rest ≡ t .written =
+            log-turns s accepted rest some ∙ simp (so, append-nil) in
             rw size-is (ends (t .written) last last-line turn-fits f)
 
         pub turn-goes-on : r .more ≡ true → (later : List ℕ) → later ≡ restOf rest →
-            Carried text first buffer (putMid at (length out - at) out last) later (r .state) (accepted + 1) (at + r .length)
+            Carried text first buffer (putMid at (length out - at) out last) later (r .state) (accepted + 1)
+            (at + r .length)
         turn-goes-on more later g =
             let t = turnOf s (accepted + 2) rest in
             let on : t .goesOn ≡ true = sym more-is ∙ more in
@@ -115,10 +122,13 @@ module _ (text : List ℕ) (first : LockState) (buffer out rest : List ℕ) (s :
               room = omega (arith, i .room, length-drop 9 rest);
               kept = is-put .kept ∙ further at (length (t .written)) out buffer (i .kept);
               log =
-                  ap (λ (l : List ℕ). l ++ logFrom (length (restOf rest)) (t .next) (accepted + 1) (restOf rest)) (is-put .front)
-                  ∙ append-assoc (take at out) (t .written) (logFrom (length (restOf rest)) (t .next) (accepted + 1) (restOf rest))
+                  ap (λ (l : List ℕ). l ++ logFrom (length (restOf rest)) (t .next) (accepted + 1) (restOf rest))
+                  (is-put .front)
+                  ∙ append-assoc (take at out) (t .written)
+                  (logFrom (length (restOf rest)) (t .next) (accepted + 1) (restOf rest))
                   ∙ ap (λ (l : List ℕ). take at out ++ l)
-                  (ap (λ (k : ℕ). t .written ++ logFrom (length (restOf rest)) (t .next) k (restOf rest)) (add-one accepted)
+                  (ap (λ (k : ℕ). t .written ++ logFrom (length (restOf rest)) (t .next) k (restOf rest))
+                  (add-one accepted)
                   ∙ sym (log-turns s accepted rest some ∙ simp on))
                   ∙ i .log;
               fewer = omega (arith, i .fewer, length-drop 9 rest);

@@ -13,7 +13,8 @@ use Prim.Native.String.{String, [] as emptyText, _∷_ as _before_}
 use mathlib.Core.Path.{_≡_, refl}
 use mathlib.Core.List.{List, [], _∷_}
 use Rattle.lock.specs.Choice.{every}
-use Rattle.lock.specs.State.{freshState, row, putRow, putTail, putNext, putLocked, putGuard, putFlag, to, putPred, putSucc, putNx}
+use Rattle.lock.specs.State.{freshState, row, putRow, putTail, putNext, putLocked}
+use Rattle.lock.specs.State.{putGuard, putFlag, to, putPred, putSucc, putNx}
 use Rattle.lock.specs.Sound.{hasPlace, cellsSound, placeSound, asFresh, soundRow, sound}
 use Rattle.lock.specs.Acts.{toQueue, toHand, onward, toLift, rest, gate, clear, swap, inside}
 use Rattle.lock.specs.Table.{stepped}

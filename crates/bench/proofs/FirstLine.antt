@@ -72,7 +72,8 @@ module _ (text out : List ℕ) (a : Answer) (room : linesRoom text ≤ length ou
         ∙ length-append (lineOf (kind ∷ edition ∷ n ∷ [])) (drop 9 out)
         ∙ omega (arith, nine, whole, length-drop 9 out)
 
-    pub later-room : (later : List ℕ) → later ≡ restOf text → linesRoom later ≤ length (midOf 9 (length front - 9) front)
+    pub later-room : (later : List ℕ) → later ≡ restOf text →
+        linesRoom later ≤ length (midOf 9 (length front - 9) front)
     later-room later f = rw (f, behind) (omega (arith, length-drop 9 text, length-drop 9 out, whole))
 
     module _ (state : eqb (a .refusal) 0 ≡ true) (later : List ℕ) (f : later ≡ restOf text) (size : ℕ)
@@ -83,7 +84,8 @@ module _ (text out : List ℕ) (a : Answer) (room : linesRoom text ≤ length ou
       begun-is =
           simp (state, as-read)
           (ap (λ (l : List ℕ). lineOf (kind ∷ edition ∷ n ∷ []) ++ l)
-          (fuel-same (length text) (length (restOf text)) (a .state) 0 (restOf text) (omega (arith, length-drop 9 text)) (omega arith)
+          (fuel-same (length text) (length (restOf text)) (a .state) 0 (restOf text)
+          (omega (arith, length-drop 9 text)) (omega arith)
           ∙ ap (λ (l : List ℕ). logFrom (length l) (a .state) 0 l) (sym f)))
 
       begun-long : 9 + size ≡ length (begun text a)
@@ -96,7 +98,8 @@ module _ (text out : List ℕ) (a : Answer) (room : linesRoom text ≤ length ou
             length-append (lineOf (kind ∷ edition ∷ n ∷ [])) (laterLog (a .state) later),
           )
 
-      pub begin-follows : (9 + size ≡ length (begun text a)) × (putMid 9 (length front - 9) front last ≡ filled (begun text a) out)
+      pub begin-follows : (9 + size ≡ length (begun text a)) ×
+          (putMid 9 (length front - 9) front last ≡ filled (begun text a) out)
       begin-follows =
           let line = lineOf (kind ∷ edition ∷ n ∷ []) in
           let log = laterLog (a .state) later in (

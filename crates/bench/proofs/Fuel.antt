@@ -1,4 +1,5 @@
--- The fuel of `logFrom` does not matter once it is the length of the text, and the equation of one turn that a reader expects.
+-- The fuel of `logFrom` does not matter once it is the length of the text, and the equation of one turn that a reader
+-- expects.
 --     fuel-same    any two fuels that are enough give one log
 --     log-ends     the log from the end of the text on is the count
 --     log-turns    the log from a line on is what the line makes and, where it goes on, the log from the next line on
@@ -17,7 +18,8 @@ use Rattle.bench.specs.Log.{Turn, counted, turnOf, logFrom}
 abbrev pub thenMore : Turn → List ℕ → List ℕ
 thenMore t more = t .written ++ cond (t .goesOn) more []
 
-pub fuel-same : (fuel other : ℕ) (s : LockState) (accepted : ℕ) (text : List ℕ) → length text ≤ fuel → length text ≤ other →
+pub fuel-same : (fuel other : ℕ) (s : LockState) (accepted : ℕ) (text : List ℕ) → length text ≤ fuel →
+    length text ≤ other →
     logFrom fuel s accepted text ≡ logFrom other s accepted text
 unfolding logFrom
 fuel-same zero zero s accepted text h g = refl
@@ -33,7 +35,8 @@ fuel-same (suc fuel) (suc other) s accepted (b ∷ text) h g =
     (omega (arith, length-drop 9 (b ∷ text)))
     (omega (arith, length-drop 9 (b ∷ text))))
 
-pub log-ends : (fuel : ℕ) (s : LockState) (accepted : ℕ) (text : List ℕ) → length text ≤ 0 → logFrom fuel s accepted text ≡ counted accepted
+pub log-ends : (fuel : ℕ) (s : LockState) (accepted : ℕ) (text : List ℕ) → length text ≤ 0 →
+    logFrom fuel s accepted text ≡ counted accepted
 unfolding logFrom
 log-ends zero s accepted [] h = refl
 log-ends (suc fuel) s accepted [] h = refl

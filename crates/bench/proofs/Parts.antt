@@ -1,7 +1,7 @@
 -- A line written into the part of a buffer that begins at a place, and the buffer when the part is back.
 --     part-is      the part lent from a place to the end is what the buffer holds from that place on
 --     put-is       the buffer with the line: as it was up to the place, the line, and as it was after it
---     put          what follows of its length, of what it holds up to the line's end, and of what it holds from there on
+--     put          so its length, what it holds up to the line's end, and what it holds from there on
 --     filled-by    a buffer that is written up to a place holds a log, and is as it was from there on
 -- Assumes nothing.
 use Prim.Native.Nat.{ℕ, _+_, _-_, _≤_}
@@ -29,10 +29,12 @@ module _ (at : ℕ) (out : List ℕ) where
 
   pub put-whole : (ys : List ℕ) → putMid at (length out - at) out ys ≡ take at out ++ ys
   put-whole ys =
-      ap (λ (l : List ℕ). take at out ++ (ys ++ l)) (drop-of-length-le (drop at out) {i = length out - at} (omega (arith, length-drop at out)))
+      ap (λ (l : List ℕ). take at out ++ (ys ++ l))
+      (drop-of-length-le (drop at out) {i = length out - at} (omega (arith, length-drop at out)))
       ∙ ap (λ (l : List ℕ). take at out ++ l) (append-nil ys)
 
-  module _ (line last : List ℕ) (room : at + length line ≤ length out) (e : last ≡ leaves line (midOf at (length out - at) out)) where
+  module _ (line last : List ℕ) (room : at + length line ≤ length out)
+      (e : last ≡ leaves line (midOf at (length out - at) out)) where
     fits : leb (length line) (length (drop at out)) ≡ true
     fits = le-leb (length line) (length (drop at out)) (omega (arith, length-drop at out))
 
@@ -69,7 +71,8 @@ module _ (at : ℕ) (out : List ℕ) where
               ∙ drop-at (take at out ++ line) (drop (at + length line) out) (at + length line) written-long;
         }
 
-pub filled-by : (log buffer after : List ℕ) (n : ℕ) → n ≤ length after → take n after ≡ log → drop n after ≡ drop n buffer →
+pub filled-by : (log buffer after : List ℕ) (n : ℕ) → n ≤ length after → take n after ≡ log →
+    drop n after ≡ drop n buffer →
     (n ≡ length log) × (after ≡ filled log buffer)
 filled-by log buffer after n h front kept =
     let size : n ≡ length log = sym (length-take-le n after h) ∙ ap length front in (

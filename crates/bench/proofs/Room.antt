@@ -20,7 +20,8 @@ use Rattle.bench.specs.Lent.{roomFor}
 use Rattle.bench.specs.Steps.{linesRoom}
 use Rattle.bench.proofs.Sizes.{cases, count-size, refusal-size, whole-nine, GoesOn, Stops, turn-size}
 
-pub later-fits : (fuel : ℕ) (s : LockState) (accepted : ℕ) (text : List ℕ) → length (logFrom fuel s accepted text) ≤ linesRoom text
+pub later-fits : (fuel : ℕ) (s : LockState) (accepted : ℕ) (text : List ℕ) →
+    length (logFrom fuel s accepted text) ≤ linesRoom text
 unfolding logFrom
 later-fits zero s accepted text = omega (arith, count-size accepted)
 later-fits (suc fuel) s accepted [] = omega (arith, count-size accepted)
@@ -60,7 +61,8 @@ log-fits text =
     (λ (e : ltb longest (length text) ≡ false).
     simp e
     (⊎-elim
-    (λ (f : eqb (t .refusal) 0 ≡ true). simp f (begun-fits text (fresh (second t) (third t)) (whole-nine text true (eqb-true (t .refusal) 0 f))))
+    (λ (f : eqb (t .refusal) 0 ≡ true). simp f
+    (begun-fits text (fresh (second t) (third t)) (whole-nine text true (eqb-true (t .refusal) 0 f))))
     (λ (f : eqb (t .refusal) 0 ≡ false). simp f (omega (arith, refusal-size (t .refusal) 1)))
     (cases (eqb (t .refusal) 0))))
     (cases (ltb longest (length text)))

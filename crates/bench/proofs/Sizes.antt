@@ -20,11 +20,13 @@ use Rattle.lock.specs.Event.{happens}
 use Rattle.frame.specs.Reading.{Told, kindOf, reads}
 use Rattle.frame.proofs.Refusals.{whole-line, by-order}
 use Rattle.frame.proofs.Proved.{lengths-are-known}
-use Rattle.bench.specs.Log.{high, low, refusedAt, counted, marks, shown, Turn, second, third, answered, followed, turnOf}
+use Rattle.bench.specs.Log.{high, low, refusedAt, counted, marks, shown}
+use Rattle.bench.specs.Log.{Turn, second, third, answered, followed, turnOf}
 
 pub row-size : (s : LockState) (event p : ℕ) → length (shown s event p) ≡ 17
 unfolding shown
-row-size s event p = lengths-are-known .row p ((row s p) .place) (s .tail) ((row s p) .locked) ((row s p) .next) (marks s event p)
+row-size s event p =
+    lengths-are-known .row p ((row s p) .place) (s .tail) ((row s p) .locked) ((row s p) .next) (marks s event p)
 
 pub count-size : (accepted : ℕ) → length (counted accepted) ≡ 9
 count-size accepted = lengths-are-known .count (high accepted) (low accepted)
@@ -46,7 +48,8 @@ GoesOn t = (t .goesOn ≡ true) × (length (t .written) ≡ 17)
 abbrev pub Stops : Turn → Type 0
 Stops t = (t .goesOn ≡ false) × (length (t .written) ≡ 11)
 
-answered-size : (s : LockState) (line event p : ℕ) (a : Answer) → GoesOn (answered s line event p a) ⊎ Stops (answered s line event p a)
+answered-size : (s : LockState) (line event p : ℕ) (a : Answer) →
+    GoesOn (answered s line event p a) ⊎ Stops (answered s line event p a)
 unfolding answered
 answered-size s line event p a =
     ⊎-elim
@@ -62,7 +65,8 @@ turn-size s line text =
     let a = answered s line (second t) (third t) (happens s (second t) (third t)) in
     ⊎-elim
     (λ (e : eqb (t .refusal) 0 ≡ true).
-    ⊎-elim (λ (g : GoesOn a). inl (simp e g, whole-nine text false (eqb-true (t .refusal) 0 e))) (λ (g : Stops a). inr (simp e g))
+    ⊎-elim (λ (g : GoesOn a). inl (simp e g, whole-nine text false (eqb-true (t .refusal) 0 e)))
+    (λ (g : Stops a). inr (simp e g))
     (answered-size s line (second t) (third t) (happens s (second t) (third t))))
     (λ (e : eqb (t .refusal) 0 ≡ false). inr (simp e, simp e (refusal-size (t .refusal) line)))
     (cases (eqb (t .refusal) 0))

@@ -41,7 +41,8 @@ module _ (text : List ℕ) where
 
   module _ (out : List ℕ) (room : ℕ) (e : room ≡ roomFor (length text)) where
     pub is-short : ltb (length out) room ≡ true →
-        (_≡_ {A = Logged} (record { refusal = 10; length = 0 }) (logged text out)) × ((out ≡ left text out) × Counts 0 out)
+        (_≡_ {A = Logged} (record { refusal = 10; length = 0 }) (logged text out)) ×
+        ((out ≡ left text out) × Counts 0 out)
     unfolding logged left
     is-short h = (simp (← e, h), (simp (← e, h), (omega arith, refl)))
 
@@ -55,8 +56,10 @@ module _ (text : List ℕ) where
       pub long-room : 11 ≤ length out
       long-room = omega (arith, ltb-false (length out) room h, e, eleven (length text))
 
-      pub is-logged : (log : List ℕ) → logOf text ≡ log → (size : ℕ) → size ≡ length log → (last : List ℕ) → last ≡ filled log out →
-          (_≡_ {A = Logged} (record { refusal = 0; length = size }) (logged text out)) × ((last ≡ left text out) × Counts size last)
+      pub is-logged : (log : List ℕ) → logOf text ≡ log → (size : ℕ) → size ≡ length log → (last : List ℕ) →
+          last ≡ filled log out →
+          (_≡_ {A = Logged} (record { refusal = 0; length = size }) (logged text out)) ×
+          ((last ≡ left text out) × Counts size last)
       unfolding logged left
       is-logged log is size f last g =
           let within : size ≤ length last = omega (arith, ap length g, length-append log (drop (length log) out)) in (

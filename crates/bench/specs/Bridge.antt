@@ -1,7 +1,7 @@
--- What the bench does with an accepted schedule is a run of lock's Run: each of its later lines asks for a call, the 03 lines are
--- the rows along the run from the fresh state, and the 04 line is the number of calls. So what is proved of every run is proved
--- of every log.
---     AcceptedLogIsARun     the log of a schedule with no refusal is line 1, the rows along its run, the number of its calls
+-- What the bench does with an accepted schedule is a run of lock's Run: each of its later lines asks for a call, the
+-- 03 lines are the rows along the run from the fresh state, and the 04 line is the number of calls. So what is proved
+-- of every run is proved of every log.
+--     AcceptedLogIsARun     a log with no refusal is line 1, the rows along its run, the number of its calls
 --     RowsFollowTheRun      the row after each call shows the state that the run has then
 --     EntryMarkIsAnEntry    the mark 4 is given exactly where the call is an entry
 use Prim.Native.Nat.{ℕ, zero, suc, _+_, _≤_}

@@ -1,6 +1,6 @@
 -- What holds of the definitions of a log, each the promise of a function of `src/laws.rt`.
 --     FuelDoesNotMatter    the fuel of `logFrom` changes nothing once it is the length of the text
---     LogFitsItsRoom       a log is within the room that the bench asks for it, so refusal 10 is the only thing that room decides
+--     LogFitsItsRoom       a log is within the room that the bench asks for it
 --     OnlyOneAnswerFits    two answers with two buffers that meet the contract of `bench` are one
 use Prim.Native.Nat.{ℕ, _≤_}
 use mathlib.Core.Path.{_≡_}

@@ -1,6 +1,6 @@
--- What the bench answers for a lent buffer, and what the buffer holds afterwards. Document 01 leaves open a buffer that is too
--- short for the whole log: it is refused by 10, before anything is written, where it is shorter than the longest log that a
--- schedule of that length can have.
+-- What the bench answers for a lent buffer, and what the buffer holds afterwards. Document 01 leaves open a buffer
+-- that is too short for the whole log: it is refused by 10, before anything is written, where it is shorter than a
+-- room that goes by the schedule's length alone and that no log of such a schedule exceeds.
 use Prim.Native.Nat.{ℕ, _+_, _*_, _/_, _≤_}
 use mathlib.Core.Path.{_≡_}
 use mathlib.Core.Bool.{cond}

@@ -1,5 +1,6 @@
--- Document 01, "Frames" and "What is turned away": the whole log of a schedule, byte for byte. One function says what a line
--- makes, and a recursion goes from line to line. The lines' forms are those of frame, the states those of lock.
+-- Document 01, "Frames" and "What is turned away": the whole log of a schedule, byte for byte. One function says what
+-- a line makes, and a recursion goes from line to line. The lines' forms are those of frame, the states those of
+-- lock.
 use Prim.Native.Nat.{ℕ, zero, suc, _+_, _/_, _%_}
 use mathlib.Core.Bool.{Bool, true, false, not, cond, _&&_}
 use mathlib.Core.List.{List, [], _∷_, _++_}
@@ -36,7 +37,8 @@ unfoldable pub marks : LockState → ℕ → ℕ → ℕ
 marks s event p =
     cond ((row s p) .flag) 1 0 + cond ((row s p) .guard) 2 0 + cond (isStep event && eqb ((row s p) .place) 9) 4 0
 
--- "03 processor place L locked next marks check: written after each accepted event, with that processor's own row as it then is"
+-- "03 processor place L locked next marks check: written after each accepted event, with that processor's own row as
+-- it then is"
 unfoldable pub shown : LockState → ℕ → ℕ → List ℕ
 shown s event p = rowLine p ((row s p) .place) (s .tail) ((row s p) .locked) ((row s p) .next) (marks s event p)
 
@@ -72,8 +74,8 @@ followed s line t =
 unfoldable pub turnOf : LockState → ℕ → List ℕ → Turn
 turnOf s line text = followed s line (reads text false)
 
--- The log from a later line on, where so many events were accepted before: their lines are 2 to accepted + 1. "After the last line
--- the end is no refusal." The fuel bounds the lines; the length of the text is enough.
+-- The log from a later line on, where so many events were accepted before: their lines are 2 to accepted + 1. "After
+-- the last line the end is no refusal." The fuel bounds the lines; the length of the text is enough.
 unfoldable pub logFrom : ℕ → LockState → ℕ → List ℕ → List ℕ
 logFrom zero s accepted text = counted accepted
 logFrom (suc fuel) s accepted [] = counted accepted
@@ -83,10 +85,12 @@ logFrom (suc fuel) s accepted (b ∷ text) =
     (logFrom fuel ((turnOf s (accepted + 2) (b ∷ text)) .next) (suc accepted) (restOf (b ∷ text)))
     []
 
--- line 1 as the lock answers it: "the 01 line as read", then the later lines; "If line 1 is refused, 05 is the whole output"
+-- line 1 as the lock answers it: "the 01 line as read", then the later lines; "If line 1 is refused, 05 is the whole
+-- output"
 unfoldable pub begun : List ℕ → Answer → List ℕ
 begun text a =
-    cond (eqb (a .refusal) 0) (take 9 text ++ logFrom (length text) (a .state) 0 (restOf text)) (refusedAt (a .refusal) 1)
+    cond (eqb (a .refusal) 0) (take 9 text ++ logFrom (length text) (a .state) 0 (restOf text))
+    (refusedAt (a .refusal) 1)
 
 unfoldable pub opened : List ℕ → Told → List ℕ
 opened text t = cond (eqb (t .refusal) 0) (begun text (fresh (second t) (third t))) (refusedAt (t .refusal) 1)

@@ -1,5 +1,5 @@
--- The words in which the contracts of the inner functions say what the definitions of Log say. Their lines stand in the lent
--- buffer, so they hand on a line's length in its place.
+-- The words in which the contracts of the inner functions say what the definitions of Log say. Their lines stand in
+-- the lent buffer, so they hand on a line's length in its place.
 use Prim.Native.Nat.{ℕ, _+_, _*_, _/_}
 use mathlib.Core.Bool.{true}
 use mathlib.Core.List.{List, _++_}

@@ -1,5 +1,5 @@
-// The laws of logs as contracts: an empty function promises each, so that a check names it. The statements are those of
-// `specs/Laws.antt` and `specs/Bridge.antt`; nobody needs to call these.
+// The laws of logs as contracts: an empty function promises each, so that a check names it. The statements are those
+// of `specs/Laws.antt` and `specs/Bridge.antt`; nobody needs to call these.
 ghost use Rattle.bench.specs.Laws.{FuelDoesNotMatter, LogFitsItsRoom, OnlyOneAnswerFits};
 ghost use Rattle.bench.specs.Bridge.{AcceptedLogIsARun, RowsFollowTheRun, EntryMarkIsAnEntry};
 

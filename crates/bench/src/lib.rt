@@ -1,7 +1,8 @@
 // A schedule's bytes in, a log's bytes out.
 //
-// The log goes straight into the lent buffer, a line at a time, and the text is handed on as a part from each line on. Each
-// function is one definition of `specs/`: `lines` writes single lines, `turns` goes from line to line, `opening` begins.
+// The log goes straight into the lent buffer, a line at a time, and the text is handed on as a part from each line
+// on. Each function is one definition of `specs/`: `lines` writes single lines, `turns` goes from line to line,
+// `opening` begins.
 pub mod laws;
 mod lines;
 mod opening;

@@ -69,7 +69,8 @@ pub(crate) fn room_for(bytes: usize) -> usize
     lines::ROW * (bytes / lines::FRAME) + lines::REFUSAL
 }
 
-// The log of a schedule, in the first bytes of `out`; or refusal 10, and nothing written, where `out` has not the room.
+// The log of a schedule, in the first bytes of `out`; or refusal 10, and nothing written, where `out` has not the
+// room.
 pub fn bench(schedule: &[u8], out: &mut [u8]) -> Logged
     ensures { λ r. ⌜ r ≡ logged (now (schedule .entry)) (now (out .entry)) ⌝ }
     ensures { λ _. ⌜ now (out .exit) ≡ left (now (schedule .entry)) (now (out .entry)) ⌝ }

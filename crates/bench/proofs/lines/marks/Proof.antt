@@ -14,7 +14,12 @@ add-result-2 c = omega arith
 returns : tie.Need-returns
 unfolding marks
 returns c =
-    simp (c .before .before .mark .ensures .0, c .before .mark2 .ensures .0, c .mark3 .ensures .0, c .before .before .before .before .row .ensures)
+    simp (
+      c .before .before .mark .ensures .0,
+      c .before .mark2 .ensures .0,
+      c .mark3 .ensures .0,
+      c .before .before .before .before .row .ensures,
+    )
 
 pub marks-spec : {M : Type 1} → statement M
 marks-spec =

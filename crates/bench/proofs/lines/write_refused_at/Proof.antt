@@ -1,4 +1,5 @@
--- `bench::lines::write_refused_at` meets its contract: the line's number goes into the two bytes that `refusedAt` says.
+-- `bench::lines::write_refused_at` meets its contract: the line's number goes into the two bytes that `refusedAt`
+-- says.
 use borrow.Author.Needs.{needs}
 use Rattle.bench.proofs.lines.write_refused_at.Statement.{statement}
 use Rattle.bench.proofs.lines.write_refused_at.Tie as tie
@@ -10,4 +11,5 @@ returns c =
 
 pub write-refused-at-spec : {M : Type 1} → statement M
 write-refused-at-spec =
-    tie.close (tie.spec (λ c κs. search needs) (λ c κs. search needs) (λ c κs. search needs) (λ c. search needs) returns)
+    tie.close (tie.spec (λ c κs. search needs) (λ c κs. search needs) (λ c κs. search needs)
+    (λ c. search needs) returns)

@@ -17,7 +17,8 @@ follow-requires : tie.Need-follow-requires
 follow-requires c κs =
     let w = c .before .before .before .before in
     let s = start-of w in
-    later-room (now (s .args .schedule)) (now (s .args .out)) (w .before .before .before .before .fresh .result) (s .pre .0)
+    later-room (now (s .args .schedule)) (now (s .args .out)) (w .before .before .before .before .fresh .result)
+    (s .pre .0)
     (s .args .kind) (s .args .edition) (s .args .n) (s .pre .1) (w .write-frame .last .0) (w .write-frame .ensures .1)
     (c .before .rest .result .now) (c .before .rest .ensures)
 
@@ -29,7 +30,8 @@ add-result c =
     omega (
       arith,
       c .before .before .follow .ensures .0,
-      later-fits (length (r .rest .result .now)) (w .before .before .before .before .fresh .result .state) 0 (r .rest .result .now),
+      later-fits (length (r .rest .result .now)) (w .before .before .before .before .fresh .result .state) 0
+          (r .rest .result .now),
       ap length (r .rest .ensures),
       length-drop 9 (now (s .args .schedule)),
       s .pre .0,

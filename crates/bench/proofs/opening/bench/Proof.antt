@@ -32,7 +32,8 @@ returns-2 c =
     let r = t .before .before in
     let a = start-of r .args in
     is-logged (now (a .schedule)) (now (a .out)) (r .room-for .result) (r .room-for .ensures) (t .before .if1 .left)
-    (refusedAt 1 0) (is-long (now (a .schedule)) (t .if2 .taken)) 11 (sym (refusal-size 1 0)) (w .write-refused-at .last .0)
+    (refusedAt 1 0) (is-long (now (a .schedule)) (t .if2 .taken)) 11 (sym (refusal-size 1 0))
+    (w .write-refused-at .last .0)
     (w .write-refused-at .ensures
     ∙ leaves-fills (refusedAt 1 0) (now (a .out))
     (omega (
@@ -46,7 +47,8 @@ open-requires c κs =
     let t = c .before in
     let r = t .before .before in
     let a = start-of r .args in
-    has-room (now (a .schedule)) (now (a .out)) (r .room-for .result) (r .room-for .ensures) (t .before .if1 .left) (t .if2 .left)
+    has-room (now (a .schedule)) (now (a .out)) (r .room-for .result) (r .room-for .ensures) (t .before .if1 .left)
+    (t .if2 .left)
 
 returns-3 : tie.Need-returns-3
 returns-3 c =

@@ -1,6 +1,5 @@
--- `bench::opening::open` meets its contract: by what the reader answers, the log begins or line 1 is refused. An accepted line is,
--- byte for byte, what is written of its numbers.
--- Assumes nothing.
+-- `bench::opening::open` meets its contract: by what the reader answers, the log begins or line 1 is refused. An
+-- accepted line is, byte for byte, what is written of its numbers. Assumes nothing.
 use mathlib.Core.Path.{sym, ap, _∙_}
 use mathlib.Core.Bool.{true}
 use denote.Ref.{now}

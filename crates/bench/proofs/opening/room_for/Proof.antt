@@ -1,4 +1,5 @@
--- `bench::opening::room_for` meets its contract: a schedule that is not too long has few enough lines that the room fits.
+-- `bench::opening::room_for` meets its contract: a schedule that is not too long has few enough lines that the room
+-- fits.
 use native.Mathlib.Omega.{arith}
 use borrow.Author.Tests.{ltb-false}
 use Rattle.bench.specs.Log.{longest}

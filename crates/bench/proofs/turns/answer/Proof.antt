@@ -9,13 +9,15 @@ use Rattle.bench.proofs.turns.answer.Tie as tie
 returns : tie.Need-returns
 unfolding answered
 returns c =
-    simp (← c .before .before .before .before .before .before .event .ensures, c .before .before .before .before .if1 .taken, row-size)
+    simp
+    (← c .before .before .before .before .before .before .event .ensures, c .before .before .before .before .if1 .taken, row-size)
     (refl, c .before .before .write-shown .ensures)
 
 returns-2 : tie.Need-returns-2
 unfolding answered
 returns-2 c =
-    simp (← c .before .before .before .before .before .before .event .ensures, c .before .before .before .before .if1 .left)
+    simp
+    (← c .before .before .before .before .before .before .event .ensures, c .before .before .before .before .if1 .left)
     (c .before .before .refuse .ensures)
 
 pub answer-spec : {M : Type 1} → statement M

@@ -1,6 +1,5 @@
--- `bench::turns::follow` meets its contract. The loop's invariant is `Carried`: what is written and what is still to come are the
--- whole log. The measure is the length of the text that is left.
--- Assumes nothing.
+-- `bench::turns::follow` meets its contract. The loop's invariant is `Carried`: what is written and what is still to
+-- come are the whole log. The measure is the length of the text that is left. Assumes nothing.
 use Prim.Native.Nat.{ℕ, _+_, _-_, _≤_}
 use native.Mathlib.Omega.{arith}
 use mathlib.Core.Path.{_≡_, ap}
@@ -9,18 +8,22 @@ use denote.Ref.{now}
 use lib.ListN.{length, length-drop}
 use borrow.Author.Needs.{needs}
 use borrow.Author.Tests.{not-true, not-false}
-use Rattle.bench.proofs.Carried.{Carried, begins, turn-room, turn-long, turn-stops, turn-goes-on, count-ends, count-long}
+use Rattle.bench.proofs.Carried.{Carried, begins, turn-room, turn-long}
+use Rattle.bench.proofs.Carried.{turn-stops, turn-goes-on, count-ends, count-long}
 use Rattle.bench.proofs.turns.follow.Statement.{statement}
 use Rattle.bench.proofs.turns.follow.Tie as tie
 
 abbrev Inv-loop : tie.InvT-loop
-Inv-loop out₀ text rest₀ state₀ accepted₀ at₀ out rest state accepted at = Carried text state₀ out₀ out rest state accepted at
+Inv-loop out₀ text rest₀ state₀ accepted₀ at₀ out rest state accepted at =
+    Carried text state₀ out₀ out rest state accepted at
 
 abbrev μ-loop : tie.MeasureT-loop
 μ-loop out₀ text rest₀ state₀ accepted₀ at₀ out rest state accepted at = length rest
 
 loop-holds : tie.Need-loop-holds Inv-loop μ-loop
-loop-holds c = begins (now (c .before .before .args .text)) (c .before .before .args .state) (now (c .before .before .args .out)) (c .before .before .pre)
+loop-holds c =
+    let s = c .before .before in
+    begins (now (s .args .text)) (s .args .state) (now (s .args .out)) (s .pre)
 
 -- the buffer is as long as it was, and what is written lies within it
 within : (l : tie.At-loop Inv-loop μ-loop) → l .loop .at ≤ length (l .loop .out)
@@ -48,7 +51,8 @@ loop-of c = c .before .before .before
 abbrev start-of : tie.After-turn Inv-loop μ-loop → tie.Start Inv-loop μ-loop
 start-of c = loop-of c .before .before .before
 
-room-there : (c : tie.After-turn Inv-loop μ-loop) → loop-of c .loop .at + c .turn .result .length ≤ length (loop-of c .loop .out)
+room-there : (c : tie.After-turn Inv-loop μ-loop) →
+    loop-of c .loop .at + c .turn .result .length ≤ length (loop-of c .loop .out)
 room-there c =
     let l = loop-of c .loop in
     let a = start-of c .args in
@@ -66,7 +70,8 @@ same-length c =
     let l = loop-of t .loop in
     let a = start-of t .args in
     turn-long (now (a .text)) (a .state) (now (a .out)) (l .out) (l .rest .now) (l .state) (l .accepted) (l .at)
-    (l .inv) (t .before .before .loop-test .taken) (t .turn .result) (t .turn .ensures .0) (t .turn .last .0) (t .turn .ensures .1)
+    (l .inv) (t .before .before .loop-test .taken) (t .turn .result) (t .turn .ensures .0) (t .turn .last .0)
+    (t .turn .ensures .1)
 
 returns : tie.Need-returns Inv-loop μ-loop
 returns c =
@@ -74,7 +79,8 @@ returns c =
     let l = loop-of t .loop in
     let a = start-of t .args in
     turn-stops (now (a .text)) (a .state) (now (a .out)) (l .out) (l .rest .now) (l .state) (l .accepted) (l .at)
-    (l .inv) (t .before .before .loop-test .taken) (t .turn .result) (t .turn .ensures .0) (t .turn .last .0) (t .turn .ensures .1)
+    (l .inv) (t .before .before .loop-test .taken) (t .turn .result) (t .turn .ensures .0) (t .turn .last .0)
+    (t .turn .ensures .1)
     (not-true (t .turn .result .more) (c .if1 .taken))
 
 add-accepted : tie.Need-add-accepted Inv-loop μ-loop
@@ -88,7 +94,13 @@ rest-requires c κs = search needs
 loop-less : tie.Need-loop-less Inv-loop μ-loop
 loop-less c =
     let t = c .before .before .before .before .before .before in
-    omega (arith, ap length (c .rest .ensures), length-drop 9 (loop-of t .loop .rest .now), t .before .before .loop-test .taken)
+    omega (
+      arith,
+      ap length (c .rest .ensures),
+      length-drop 9
+          (loop-of t .loop .rest .now),
+      t .before .before .loop-test .taken,
+    )
 
 loop-again : tie.Need-loop-again Inv-loop μ-loop
 loop-again c =
@@ -96,7 +108,8 @@ loop-again c =
     let l = loop-of t .loop in
     let a = start-of t .args in
     turn-goes-on (now (a .text)) (a .state) (now (a .out)) (l .out) (l .rest .now) (l .state) (l .accepted) (l .at)
-    (l .inv) (t .before .before .loop-test .taken) (t .turn .result) (t .turn .ensures .0) (t .turn .last .0) (t .turn .ensures .1)
+    (l .inv) (t .before .before .loop-test .taken) (t .turn .result) (t .turn .ensures .0) (t .turn .last .0)
+    (t .turn .ensures .1)
     (not-false (t .turn .result .more) (c .before .before .if1 .left)) (c .rest .result .now) (c .rest .ensures)
 
 sub-write-counted : tie.Need-sub-write-counted Inv-loop μ-loop
@@ -121,7 +134,8 @@ same-length-2 c =
     let at-end = c .before .before .before .before .before in
     let l = at-end .loop in
     let a = at-end .before .before .before .args in
-    count-long (now (a .text)) (a .state) (now (a .out)) (l .out) (l .rest .now) (l .state) (l .accepted) (l .at) (l .inv)
+    count-long (now (a .text)) (a .state) (now (a .out)) (l .out) (l .rest .now) (l .state) (l .accepted) (l .at)
+    (l .inv)
     (c .before .before .write-counted .last .0) (c .before .before .write-counted .ensures)
 
 returns-2 : tie.Need-returns-2 Inv-loop μ-loop
@@ -129,8 +143,10 @@ returns-2 c =
     let at-end = c .before .before .before .before .before in
     let l = at-end .loop in
     let a = at-end .before .before .before .args in
-    count-ends (now (a .text)) (a .state) (now (a .out)) (l .out) (l .rest .now) (l .state) (l .accepted) (l .at) (l .inv)
-    (c .before .before .write-counted .last .0) (c .before .before .before .before .loop-test .left) (c .before .before .write-counted .ensures)
+    count-ends (now (a .text)) (a .state) (now (a .out)) (l .out) (l .rest .now) (l .state) (l .accepted) (l .at)
+    (l .inv)
+    (c .before .before .write-counted .last .0) (c .before .before .before .before .loop-test .left)
+    (c .before .before .write-counted .ensures)
 
 pub follow-spec : {M : Type 1} → statement M
 follow-spec =
