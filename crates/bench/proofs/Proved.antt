@@ -16,7 +16,11 @@ pub log-fits-its-room : LogFitsItsRoom
 log-fits-its-room text = log-fits text
 
 pub only-one-answer-fits : OnlyOneAnswerFits
-only-one-answer-fits text out r s after kept p f q g = (p ∙ sym q, f ∙ sym g)
+only-one-answer-fits =
+    record {
+      to-bench = λ text out r s after kept p f q g. (p ∙ sym q, f ∙ sym g);
+      to-room = λ bytes r s p q. p ∙ sym q;
+    }
 
 pub accepted-log-is-a-run : AcceptedLogIsARun
 accepted-log-is-a-run text h = log-is-run text h

@@ -9,6 +9,7 @@ mod opening;
 mod turns;
 
 pub use opening::bench;
+pub use opening::room_for;
 
 // What the bench answers: refusal 10 or 0, and how many bytes of the lent buffer the log fills.
 pub struct Logged {

@@ -59,7 +59,7 @@ pub(crate) fn open(out: &mut [u8], schedule: &[u8]) -> usize
 }
 
 // The room that a buffer must have for the log of so many bytes.
-pub(crate) fn room_for(bytes: usize) -> usize
+pub fn room_for(bytes: usize) -> usize
     ensures { λ r. ⌜ r ≡ roomFor bytes ⌝ }
 {
     let long = LONGEST < bytes;

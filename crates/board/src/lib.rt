@@ -2,6 +2,8 @@
 //
 // Each function is one definition of bench or frame, told as one number: how many bytes are written, and 0 where the
 // lent buffer has not the room. They ask nothing of their caller but that a slice is what it says.
+pub mod laws;
+
 ghost use mathlib.Core.Path.{_≡_};
 ghost use mathlib.Core.List.{[], _∷_};
 ghost use lib.ListN.{length};
@@ -10,25 +12,15 @@ ghost use Rattle.frame.specs.Writing.{lineOf, leaves};
 ghost use Rattle.bench.specs.Lent.{roomFor, logged, left};
 ghost use Rattle.board.specs.Written.{written};
 
-// A schedule has at most 6,001 lines of 9 bytes. For each the log has at most 17, and 11 for the last refusal.
-const LONGEST: usize = 54009;
-
+// A line of four pairs has 9 bytes.
 const LINE: usize = 9;
-
-const ROW: usize = 17;
-
-const REFUSAL: usize = 11;
 
 // The room that a buffer must have for the log of a schedule of so many bytes.
 #[no_mangle]
 pub extern "C" fn pontivesca_room(bytes: usize) -> usize
     ensures { λ r. ⌜ r ≡ roomFor bytes ⌝ }
 {
-    let long = LONGEST < bytes;
-    if long {
-        return REFUSAL;
-    }
-    ROW * (bytes / LINE) + REFUSAL
+    bench::room_for(bytes)
 }
 
 // The log of a schedule, in the first bytes of `out`: how many bytes it fills. 0, and nothing written, exactly where

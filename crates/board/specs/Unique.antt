@@ -1,0 +1,16 @@
+-- Only one answer fits each function for C and Rust: two answers, and two buffers, that meet a contract are one.
+use Prim.Native.Nat.{ℕ}
+use mathlib.Core.Path.{_≡_}
+use mathlib.Core.List.{List}
+use Rattle.frame.specs.Writing.{leaves}
+use Rattle.bench.specs.Lent.{roomFor, logged, left}
+use Rattle.board.specs.Written.{written}
+
+pub record OnlyOneAnswerFits : Type 0 where
+  pub to-room : (bytes r s : ℕ) → r ≡ roomFor bytes → s ≡ roomFor bytes → r ≡ s
+  pub to-log : (text out : List ℕ) (r s : ℕ) (after kept : List ℕ) →
+      r ≡ (logged text out) .length → after ≡ left text out → s ≡ (logged text out) .length → kept ≡ left text out →
+      (r ≡ s) × (after ≡ kept)
+  pub to-line : (line out : List ℕ) (r s : ℕ) (after kept : List ℕ) →
+      r ≡ written line out → after ≡ leaves line out → s ≡ written line out → kept ≡ leaves line out →
+      (r ≡ s) × (after ≡ kept)
