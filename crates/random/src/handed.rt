@@ -22,85 +22,6 @@ struct Drawn {
     dice: Dice,
 }
 
-// The places of each edition in rising order; only the first ones of a row count, 11, 20 and 23 of them.
-const PLACES: [[u8; 23]; 3] = [
-    [
-        0,
-        2,
-        3,
-        4,
-        5,
-        7,
-        9,
-        14,
-        15,
-        16,
-        17,
-        0,
-        0,
-        0,
-        0,
-        0,
-        0,
-        0,
-        0,
-        0,
-        0,
-        0,
-        0,
-    ],
-    [
-        0,
-        2,
-        3,
-        4,
-        5,
-        6,
-        7,
-        8,
-        9,
-        10,
-        11,
-        12,
-        13,
-        14,
-        15,
-        16,
-        17,
-        19,
-        20,
-        21,
-        0,
-        0,
-        0,
-    ],
-    [
-        0,
-        1,
-        2,
-        3,
-        4,
-        5,
-        6,
-        7,
-        8,
-        9,
-        10,
-        11,
-        12,
-        13,
-        14,
-        15,
-        16,
-        17,
-        18,
-        19,
-        20,
-        21,
-        22,
-    ],
-];
-
 // Two hundred trials.
 pub fn trials(number: u64) -> Block {
     let mut b = Block {
@@ -217,10 +138,37 @@ fn places(edition: u8) -> u64 {
     }
 }
 
+// The places of each edition in rising order: plain by its list, drawn without 1, 18 and 22, guarded all.
 fn place_of(edition: u8, at: u64) -> u8 {
-    let row = edition as usize;
-    let column = (at % 23) as usize;
-    if row < 3 { PLACES[row][column] } else { 0 }
+    let k = (at % 23) as u8;
+    match edition {
+        0 => plain_place(k),
+        1 => drawn_place(k),
+        _ => k,
+    }
+}
+
+fn plain_place(k: u8) -> u8 {
+    match k {
+        0 => 0,
+        1 => 2,
+        2 => 3,
+        3 => 4,
+        4 => 5,
+        5 => 7,
+        6 => 9,
+        7 => 14,
+        8 => 15,
+        9 => 16,
+        _ => 17,
+    }
+}
+
+fn drawn_place(k: u8) -> u8 {
+    if k == 0 {
+        return 0;
+    }
+    if k < 17 { k % 23 + 1 } else { k % 23 + 2 }
 }
 
 // One trial in four breaks a cell.
