@@ -4,6 +4,7 @@
 --     row-put          both, as one choice
 --     rows-put         there are as many rows as before
 --     getD-any         an index within a list needs no default
+--     row-within       so a row that is there is what stands at its number
 use Prim.Native.Nat.{ℕ, zero, suc, _<_}
 use native.Mathlib.Nat.{not-suc-le-zero, le-of-suc-le-suc}
 use mathlib.Core.List.{List, [], _∷_, map}
@@ -48,3 +49,11 @@ getD-any (a ∷ l) (suc i) d e h = getD-any l i d e (le-of-suc-le-suc h)
 -- a list is as long as what a function makes of each of its elements
 pub length-mapped : (X Y : Type 0) (f : X → Y) (l : List X) (n : ℕ) → length (map f l) ≡ n → length l ≡ n
 length-mapped X Y f l n e = sym (length-map l f) ∙ e
+
+-- what the code reads past the end of its rows, which it never does
+abbrev pub zeroRow : Row
+zeroRow = record { next = 0; locked = 0; guard = false; flag = false; place = 0; pred = 0; succ = 0; nx = 0 }
+
+pub row-within : (s : LockState) (i : ℕ) → i < length (s .rows) → getD (s .rows) i zeroRow ≡ row s i
+unfolding row
+row-within s i h = getD-any (s .rows) i zeroRow freshRow h

@@ -3,7 +3,9 @@ use crate::LockState;
 use crate::Row;
 ghost use mathlib.Core.Path.{_≡_};
 ghost use Rattle.lock.specs.Sound as Sound;
-ghost use Rattle.lock.specs.Choice.{every};
+ghost use mathlib.Core.Bool.{_&&_};
+ghost use lib.Dec.{ltb};
+ghost use Rattle.lock.specs.Choice.{pick, every};
 ghost use Rattle.lock.specs.State.{processors};
 
 // Which places an edition has: a row for each place, a column for each edition (plain, drawn, guarded).
@@ -89,26 +91,28 @@ fn as_fresh(r: Row) -> bool
         & (r.nx == LockState::NONE)
 }
 
-impl LockState {
-    fn sound_row(self, i: u8) -> bool
-        ensures { λ b. ⌜ b ≡ Sound.soundRow self i ⌝ }
-    {
-        let r = self.row(i);
-        let used = i < self.n;
-        if used {
-            cells_sound(self.n, r) & place_sound(self.edition, r)
-        } else {
-            as_fresh(r)
-        }
+// Row number i of a state of that edition and N.
+fn sound_row(edition: u8, n: u8, i: u8, r: Row) -> bool
+    ensures { λ b. ⌜ b ≡ pick (ltb i n) (Sound.cellsSound n r && Sound.placeSound edition r) (Sound.asFresh r) ⌝ }
+{
+    let used = i < n;
+    if used {
+        cells_sound(n, r) & place_sound(edition, r)
+    } else {
+        as_fresh(r)
     }
+}
 
+impl LockState {
     fn sound_rows(self) -> bool
         ensures { λ b. ⌜ b ≡ every processors (Sound.soundRow self) ⌝ }
     {
+        let rows = self.rows;
         let mut ok = true;
-        let mut i = 0;
+        let mut i: u8 = 0;
         while i < LockState::PROCESSORS {
-            ok = ok & self.sound_row(i);
+            let r = rows[i as usize];
+            ok = ok & sound_row(self.edition, self.n, i, r);
             i += 1;
         }
         ok
