@@ -1,23 +1,20 @@
 -- What one replaced row or tail leaves of a state: the laws by which every other proof reads a state after an act.
 --     row-put-same     the replaced row is the one put there, where there is such a row
 --     row-put-other    every other row is as it was
---     row-put          both, as one choice
 --     rows-put         there are as many rows as before
 --     getD-any         an index within a list needs no default
+--     length-mapped    a list is as long as what a function makes of it
 --     row-within       so a row that is there is what stands at its number
 use Prim.Native.Nat.{ℕ, zero, suc, _<_}
 use native.Mathlib.Nat.{not-suc-le-zero, le-of-suc-le-suc}
 use mathlib.Core.List.{List, [], _∷_, map}
 use mathlib.Core.Path.{_≡_, refl, sym, _∙_}
-use mathlib.Core.Bool.{Bool, true, false}
+use mathlib.Core.Bool.{false}
 use mathlib.Core.Logic.{_≢_}
 use lib.ListN.{length, getD, length-set, length-map}
 use lib.Seq.{getD-set-same, getD-set-other}
-use lib.Dec.{eqb}
-use borrow.Author.Tests.{eqb-true, eqb-false}
 use Rattle.lock.specs.declared.Row.{Row}
 use Rattle.lock.specs.declared.LockState.{LockState}
-use Rattle.lock.specs.Choice.{pick}
 use Rattle.lock.specs.State.{freshRow, row, putRow}
 
 pub rows-put : (s : LockState) (p : ℕ) (r : Row) → length ((putRow s p r) .rows) ≡ length (s .rows)
@@ -31,14 +28,6 @@ row-put-same s p r h = getD-set-same (s .rows) p r freshRow h
 pub row-put-other : (s : LockState) (p : ℕ) (r : Row) (q : ℕ) → q ≢ p → row (putRow s p r) q ≡ row s q
 unfolding row putRow
 row-put-other s p r q h = getD-set-other (s .rows) p q r freshRow h
-
--- the choice that row-put states, by the test's outcome
-chosen : (s : LockState) (p : ℕ) (r : Row) (q : ℕ) (b : Bool) → eqb q p ≡ b → p < length (s .rows) → row (putRow s p r) q ≡ pick b r (row s q)
-chosen s p r q true e h = rw (eqb-true q p e) (row-put-same s p r h)
-chosen s p r q false e h = row-put-other s p r q (eqb-false q p e)
-
-pub row-put : (s : LockState) (p : ℕ) (r : Row) (q : ℕ) → p < length (s .rows) → row (putRow s p r) q ≡ pick (eqb q p) r (row s q)
-row-put s p r q h = chosen s p r q (eqb q p) refl h
 
 -- what stands at an index within a list does not depend on the default
 pub getD-any : {A : Type 0} (l : List A) (i : ℕ) (d e : A) → i < length l → getD l i d ≡ getD l i e

@@ -3,7 +3,6 @@
 --     inv-fresh        the fresh state of an ordered edition meets it
 --     inv-after        every call keeps it, refused ones too
 --     inv-entry        who enters has the earliest latest join of all in the queue
---     inv-ticket       who is in the queue has a number that was given out
 use Prim.Native.Nat.{ℕ, _<_, _≤_}
 use mathlib.Core.Path.{_≡_, refl, sym, ap, _∙_}
 use mathlib.Core.Bool.{Bool, true, false, not}
@@ -215,7 +214,3 @@ unfolding Inv enters
 inv-entry s g c e q v h m d =
     inside-first (after s c) (ticketed s g c) e q (inv-after s g c v)
     (and-right (stepsOf s c e) (eqb ((row (after s c) e) .place) 9) h) m d
-
-pub inv-ticket : (s : LockState) (g : Tickets) (q : ℕ) → Inv s g → isMember s q ≡ true → g .latest q < g .count
-unfolding Inv
-inv-ticket s g q v m = (member-queued s g q v m) .high

@@ -40,9 +40,6 @@ before a (suc i) h = (i, refl, omega arith)
 abbrev pub roleRow : Row → Role
 roleRow r = role (stageAt (r .place)) (r .locked) (isNone (r .nx))
 
-abbrev pub DutyRow : Tickets → Ghost → ℕ → Row → Type 0
-DutyRow g G q r = Duty (roleRow r) g G q (r .next) (r .succ) (pick (isLifting (stageAt (r .place))) (r .nx) (r .succ))
-
 -- at the front, linked and not served: it waits
 waits :
     {g : Tickets} {G : Ghost} (ρ : Role) (q next succ heir : ℕ) → isQueued ρ ≡ true → g .latest q ≡ G .gone

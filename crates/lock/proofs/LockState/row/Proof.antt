@@ -1,11 +1,11 @@
 -- `lock::LockState::row` meets its contract: within the rows the default does not matter, past them the row is fresh.
 use borrow.Author.Needs.{needs}
-use Prim.Native.Nat.{_<_, _≤_}
+use Prim.Native.Nat.{_≤_}
 use lib.ListN.{length, List·getD-eq-default}
 use mathlib.Core.Path.{_∙_, sym, _≡_}
 use native.Mathlib.Omega.{arith}
 use Rattle.lock.specs.State.{freshRow, row}
-use Rattle.lock.proofs.Rows.{getD-any, length-mapped}
+use Rattle.lock.proofs.Rows.{row-within, length-mapped}
 use Rattle.lock.proofs.LockState.row.Statement.{statement}
 use Rattle.lock.proofs.LockState.row.Tie as tie
 
@@ -20,8 +20,7 @@ unfolding row
 returns c =
     let a = c .before .before .args in
     let n : length (a .t1 .rows) ≡ 16 = search (length-mapped, needs) in
-    let h : a .p < length (a .t1 .rows) = omega arith in
-    getD-any (a .t1 .rows) (a .p) _ freshRow h
+    row-within (a .t1) (a .p) (omega arith)
 
 returns-2 : tie.Need-returns-2
 unfolding row
