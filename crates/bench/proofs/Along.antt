@@ -7,7 +7,7 @@
 --     rows-follow      the row after each call shows the state of the run then
 --     entry-mark       the mark 4 is an entry
 -- Assumes nothing.
-use Prim.Native.Nat.{ℕ, zero, suc, _+_, _≤_, _<_}
+use Prim.Native.Nat.{ℕ, zero, suc, _+_, _≤_}
 use native.Mathlib.Omega.{arith}
 use mathlib.Core.Path.{_≡_, refl, sym, ap, _∙_}
 use mathlib.Core.Logic.{_↔_}
@@ -23,7 +23,7 @@ use Rattle.lock.specs.State.{processors, freshState, row}
 use Rattle.lock.specs.Event.{fresh, happens, isStep, accepted, refused, filler}
 use Rattle.lock.specs.Run.{Call, after, run, stepsOf, enters}
 use Rattle.frame.specs.Reading.{reads, restOf}
-use Rattle.bench.specs.Log.{Turn, longest, counted, marks, shown, second, third}
+use Rattle.bench.specs.Log.{longest, counted, marks, shown}
 use Rattle.bench.specs.Log.{answered, followed, turnOf, logFrom, begun, opened, logOf}
 use Rattle.bench.specs.Bridge.{callOf, callsFrom, callsOf, rowsOf, areRead, areAccepted}
 use Rattle.bench.specs.Bridge.{editionOf, processorsOf, firstState, Accepted, EntryMark}

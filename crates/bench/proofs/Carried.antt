@@ -6,13 +6,13 @@
 --     count-ends     at the end of the text, the count ends the log
 --     turn-long, count-long   the buffer keeps its length
 -- Assumes nothing.
-use Prim.Native.Nat.{ℕ, zero, suc, _+_, _-_, _≤_, _<_}
+use Prim.Native.Nat.{ℕ, _+_, _-_, _≤_, _<_}
 use native.Mathlib.Omega.{arith}
 use native.Mathlib.Numerals.{add-one}
 use mathlib.Core.Path.{_≡_, refl, sym, ap, _∙_}
 use mathlib.Core.Logic.{⊎-elim}
 use mathlib.Core.Bool.{true, false, true≢false}
-use mathlib.Core.List.{List, [], _∷_, _++_, append-assoc, append-nil}
+use mathlib.Core.List.{List, _++_, append-assoc, append-nil}
 use lib.ListN.{length, take, drop, length-drop}
 use lib.Seq.{drop-drop}
 use borrow.Rule.Slice.PartMut.{midOf, putMid}
@@ -20,10 +20,10 @@ use Rattle.lock.specs.declared.LockState.{LockState}
 use Rattle.frame.specs.Reading.{restOf}
 use Rattle.frame.specs.Writing.{leaves}
 use Rattle.bench.specs.declared.turns.Turned.{Turned}
-use Rattle.bench.specs.Log.{Turn, counted, turnOf, logFrom}
+use Rattle.bench.specs.Log.{counted, turnOf, logFrom}
 use Rattle.bench.specs.Steps.{turned, filled, laterLog, linesRoom}
 use Rattle.bench.proofs.Sizes.{count-size, GoesOn, Stops, turn-size}
-use Rattle.bench.proofs.Fuel.{thenMore, log-ends, log-turns}
+use Rattle.bench.proofs.Fuel.{log-ends, log-turns}
 use Rattle.bench.proofs.Parts.{Put, put, filled-by}
 
 -- Where the loop stands: `out` was `buffer`, `at` bytes of it are written, and the log of `text` from the state

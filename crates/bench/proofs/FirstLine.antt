@@ -5,9 +5,9 @@
 --     begin-follows    line 1 as read, and the later lines behind it, are `begun`
 --     begin-refuses    the refusal alone is `begun`
 -- Assumes nothing.
-use Prim.Native.Nat.{ℕ, _+_, _-_, _*_, _/_, _≤_}
+use Prim.Native.Nat.{ℕ, _+_, _-_, _≤_}
 use native.Mathlib.Omega.{arith}
-use mathlib.Core.Path.{_≡_, refl, sym, ap, _∙_}
+use mathlib.Core.Path.{_≡_, sym, ap, _∙_}
 use mathlib.Core.Bool.{true, false}
 use mathlib.Core.List.{List, [], _∷_, _++_, append-assoc}
 use lib.ListN.{length, take, drop, length-append, length-drop, length-take}
@@ -19,7 +19,7 @@ use Rattle.lock.specs.declared.Answer.{Answer}
 use Rattle.frame.specs.Reading.{refusedBy, reads, restOf}
 use Rattle.frame.specs.Writing.{lineOf, leaves}
 use Rattle.frame.proofs.Proved.{lengths-are-known}
-use Rattle.bench.specs.Log.{refusedAt, logFrom, begun, opened}
+use Rattle.bench.specs.Log.{refusedAt, logFrom, begun}
 use Rattle.bench.specs.Steps.{filled, laterLog, openedLog, linesRoom}
 use Rattle.bench.proofs.Sizes.{refusal-size}
 use Rattle.bench.proofs.Told.{open-refuses}

@@ -2,12 +2,12 @@
 --     later-fits   from a later line on: 17 bytes for each whole line and 11 more
 --     log-fits     the whole log, of a schedule of any length
 -- Assumes nothing.
-use Prim.Native.Nat.{ℕ, zero, suc, _+_, _*_, _/_, _≤_}
+use Prim.Native.Nat.{ℕ, zero, suc, _+_, _≤_}
 use native.Mathlib.Omega.{arith}
 use mathlib.Core.Logic.{⊎-elim}
-use mathlib.Core.Path.{_≡_, refl, ap}
+use mathlib.Core.Path.{_≡_}
 use mathlib.Core.Bool.{true, false}
-use mathlib.Core.List.{List, [], _∷_, _++_}
+use mathlib.Core.List.{List, [], _∷_}
 use lib.ListN.{length, take, length-append, length-drop, length-take}
 use lib.Dec.{eqb, ltb}
 use borrow.Author.Tests.{eqb-true}

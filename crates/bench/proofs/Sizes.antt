@@ -4,8 +4,7 @@
 --     whole-nine                           a line that is read without refusal has its nine bytes
 --     turn-size                            a turn goes on after 17 bytes, from nine of the text, or stops after 11
 -- Assumes nothing.
-use Prim.Native.Nat.{ℕ, _+_, _≤_}
-use native.Mathlib.Omega.{arith}
+use Prim.Native.Nat.{ℕ, _≤_}
 use mathlib.Core.Path.{_≡_, refl}
 use mathlib.Core.Logic.{_⊎_, inl, inr, ⊎-elim}
 use mathlib.Core.Bool.{Bool, true, false}
@@ -17,7 +16,7 @@ use Rattle.lock.specs.declared.LockState.{LockState}
 use Rattle.lock.specs.declared.Answer.{Answer}
 use Rattle.lock.specs.State.{row}
 use Rattle.lock.specs.Event.{happens}
-use Rattle.frame.specs.Reading.{Told, kindOf, reads}
+use Rattle.frame.specs.Reading.{kindOf, reads}
 use Rattle.frame.proofs.Refusals.{whole-line, by-order}
 use Rattle.frame.proofs.Proved.{lengths-are-known}
 use Rattle.bench.specs.Log.{high, low, refusedAt, counted, marks, shown}

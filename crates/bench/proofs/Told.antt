@@ -4,19 +4,19 @@
 --     open-begins, open-refuses      line 1
 -- Assumes nothing.
 use Prim.Native.Nat.{ℕ}
-use mathlib.Core.Path.{_≡_, refl, sym, ap, _∙_}
+use mathlib.Core.Path.{_≡_, sym, ap, _∙_}
 use mathlib.Core.Bool.{Bool, true, false}
 use mathlib.Core.List.{List, [], _∷_}
 use lib.Dec.{eqb}
 use native.Mathlib.Omega.{arith}
 use borrow.Author.Tests.{ne-eqb}
 use Rattle.lock.specs.declared.LockState.{LockState}
-use Rattle.lock.specs.Event.{fresh, happens}
+use Rattle.lock.specs.Event.{fresh}
 use Rattle.frame.specs.Pairs.{pairsFrom}
 use Rattle.frame.specs.Reading.{Told, refusedBy, kindOf, reads}
 use Rattle.frame.proofs.Refusals.{by-order, is-accepted}
 use Rattle.bench.specs.Steps.{eventTurn, openedLog}
-use Rattle.bench.specs.Log.{refusedAt, stopped, answered, followed, turnOf, begun, opened}
+use Rattle.bench.specs.Log.{refusedAt, stopped, followed, turnOf, begun, opened}
 
 -- a frame's numbers as the reader says them
 abbrev pub framed : ℕ → ℕ → ℕ → ℕ → Told

@@ -6,18 +6,18 @@
 --     has-room     the room that the lines of any other need is there
 --     long-room    there is room for a refusal in any case
 -- Assumes nothing.
-use Prim.Native.Nat.{ℕ, _+_, _≤_}
+use Prim.Native.Nat.{ℕ, _≤_}
 use native.Mathlib.Omega.{arith}
 use mathlib.Core.Path.{_≡_, refl, sym, ap, _∙_}
 use mathlib.Core.Logic.{⊎-elim}
 use mathlib.Core.Bool.{true, false}
-use mathlib.Core.List.{List, _++_}
+use mathlib.Core.List.{List}
 use lib.ListN.{length, drop, length-append}
 use lib.Seq.{length-take-le}
 use lib.Dec.{ltb}
 use borrow.Author.Tests.{ltb-false}
 use Rattle.bench.specs.declared.Logged.{Logged}
-use Rattle.bench.specs.Log.{longest, refusedAt, opened, logOf}
+use Rattle.bench.specs.Log.{longest, refusedAt, logOf}
 use Rattle.bench.specs.Lent.{roomFor, logged, left, Counts}
 use Rattle.bench.specs.Steps.{filled, openedLog, linesRoom}
 use Rattle.bench.proofs.Sizes.{cases}

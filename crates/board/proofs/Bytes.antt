@@ -3,12 +3,12 @@
 --     log-size                  a log has at least nine bytes
 --     zero-is-short             0 bytes of a log are written exactly where the buffer has not the room
 -- Assumes nothing.
-use Prim.Native.Nat.{ℕ, _+_, _≤_}
+use Prim.Native.Nat.{ℕ, _≤_}
 use native.Mathlib.Omega.{arith}
 use mathlib.Core.Path.{_≡_, sym, ap, _∙_}
 use mathlib.Core.Logic.{⊎-elim}
 use mathlib.Core.Bool.{Bool, true, false, cond}
-use mathlib.Core.List.{List, _++_}
+use mathlib.Core.List.{List}
 use lib.ListN.{length, take, length-append}
 use lib.Seq.{length-take-le}
 use lib.Dec.{eqb, leb, ltb}
@@ -17,7 +17,7 @@ use Rattle.lock.specs.declared.Answer.{Answer}
 use Rattle.lock.specs.Event.{fresh}
 use Rattle.frame.specs.Reading.{Told, reads, restOf}
 use Rattle.frame.specs.Writing.{writes}
-use Rattle.bench.specs.Log.{longest, refusedAt, begun, opened, logOf, logFrom, second, third}
+use Rattle.bench.specs.Log.{longest, begun, opened, logOf, logFrom, second, third}
 use Rattle.bench.specs.Lent.{roomFor, logged}
 use Rattle.bench.proofs.Sizes.{cases, refusal-size, whole-nine}
 use Rattle.board.specs.Written.{written}

@@ -1,6 +1,6 @@
 -- Document 01, "Frames": "A frame is pairs of upper-case hexadecimal digits and a line feed. The last pair is the check: the sum
 -- of all pairs, wrapping at 256, is 0." The digit's rule for reading and for writing, pairs, and the sum. Lines of any length.
-use Prim.Native.Nat.{ℕ, zero, suc, _+_, _-_, _*_, _/_, _%_}
+use Prim.Native.Nat.{ℕ, zero, suc, _+_, _-_, _*_, _%_}
 use mathlib.Core.Bool.{Bool, true, cond, _&&_, _||_}
 use mathlib.Core.List.{List, [], _∷_}
 use lib.ListN.{getD}

@@ -1,5 +1,5 @@
 -- Only one answer meets a contract that is an equation: one law, cited for each public function.
-use mathlib.Core.Path.{_≡_, sym, _∙_}
+use mathlib.Core.Path.{sym, _∙_}
 use Rattle.lock.specs.State.{row}
 use Rattle.lock.specs.Sound.{sound}
 use Rattle.lock.specs.Event.{fresh, happens}

@@ -1,8 +1,8 @@
 -- Document 01, "Schedules to hold it to": the cases marked P, as one table of tests under one claim. The checker computes it.
-use Prim.Native.Nat.{ℕ, zero, suc}
+use Prim.Native.Nat.{ℕ}
 use mathlib.Core.Path.{_≡_}
 use mathlib.Core.Bool.{Bool, true, false, _&&_, Bool·beq}
-use mathlib.Core.List.{List, [], _∷_, _++_}
+use mathlib.Core.List.{List, [], _∷_}
 use lib.ListN.{replicate}
 use lib.Dec.{eqb}
 use Rattle.lock.specs.declared.Row.{Row}

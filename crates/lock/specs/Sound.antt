@@ -1,6 +1,6 @@
 -- Document 01, "A state is sound when": each part in the document's order, the places of each edition as its three lists.
 use Prim.Native.Nat.{ℕ}
-use mathlib.Core.Bool.{Bool, true, false, not, _&&_, _||_}
+use mathlib.Core.Bool.{Bool, false, not, _&&_, _||_}
 use mathlib.Core.List.{List, [], _∷_, _++_}
 use lib.Dec.{eqb, ltb, leb}
 use Rattle.lock.specs.declared.Row.{Row}

@@ -1,7 +1,6 @@
 // The state of one lock and up to sixteen processors.
 ghost use mathlib.Core.Path.{_≡_};
 ghost use Rattle.lock.specs.State.{freshRow};
-ghost use Rattle.lock.specs.State.{freshState, row, putRow, putNext};
 
 mod acts;
 mod cells;

@@ -1,13 +1,9 @@
 -- `bench::opening::bench` meets its contract: the room is tested first, then refusal 1, and then the log is opened.
 -- Assumes nothing.
 use native.Mathlib.Omega.{arith}
-use mathlib.Core.Path.{_≡_, refl, sym, ap, _∙_}
-use mathlib.Core.Bool.{true}
-use mathlib.Core.List.{List}
+use mathlib.Core.Path.{sym, _∙_}
 use denote.Ref.{now}
-use lib.ListN.{length}
 use borrow.Author.Needs.{needs}
-use borrow.Author.Tests.{ltb-false}
 use Rattle.bench.specs.Log.{refusedAt}
 use Rattle.bench.specs.Steps.{openedLog}
 use Rattle.bench.proofs.Sizes.{refusal-size}

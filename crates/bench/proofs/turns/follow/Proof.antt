@@ -1,9 +1,8 @@
 -- `bench::turns::follow` meets its contract. The loop's invariant is `Carried`: what is written and what is still to
 -- come are the whole log. The measure is the length of the text that is left. Assumes nothing.
-use Prim.Native.Nat.{ℕ, _+_, _-_, _≤_}
+use Prim.Native.Nat.{_+_, _≤_}
 use native.Mathlib.Omega.{arith}
-use mathlib.Core.Path.{_≡_, ap}
-use mathlib.Core.List.{List}
+use mathlib.Core.Path.{ap}
 use denote.Ref.{now}
 use lib.ListN.{length, length-drop}
 use borrow.Author.Needs.{needs}

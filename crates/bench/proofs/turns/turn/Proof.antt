@@ -1,9 +1,8 @@
 -- `bench::turns::turn` meets its contract: by what the reader answers, the event is carried out or the line refused.
-use mathlib.Core.Path.{_≡_, sym, ap, _∙_}
-use mathlib.Core.Bool.{false}
+use mathlib.Core.Path.{sym, ap, _∙_}
 use borrow.Author.Needs.{needs}
 use denote.Ref.{now}
-use Rattle.frame.specs.Reading.{told, reads, refusedBy}
+use Rattle.frame.specs.Reading.{told}
 use Rattle.frame.specs.Writing.{leaves}
 use Rattle.bench.specs.Steps.{turned}
 use Rattle.bench.proofs.Told.{turn-answers, turn-refuses}

@@ -1,6 +1,6 @@
 -- `random::text::filled` is safe and ends. The loop's invariant: the buffer keeps its length.
 use borrow.Author.Needs.{needs}
-use Prim.Native.Nat.{_≤_, _-_}
+use Prim.Native.Nat.{_-_}
 use lib.ListN.{length}
 use mathlib.Core.Path.{_≡_}
 use Rattle.random.proofs.text.filled.Statement.{statement}
