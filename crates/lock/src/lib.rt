@@ -1,4 +1,6 @@
-// The state of one lock and up to sixteen processors.
+// The state of one lock and up to sixteen processors, its soundness, the step table and the events. Here are the types and the
+// limits; each module is one part of document 01: `cells` a state's cells, `sound` soundness, `acts` and `table` the step table,
+// `event` the events. `claims`, `kept` and `laws` promise what is proved of them.
 ghost use mathlib.Core.Path.{_≡_};
 ghost use Rattle.lock.specs.State.{freshRow};
 
@@ -11,6 +13,8 @@ pub mod laws;
 mod sound;
 mod table;
 
+// What belongs to one processor: its queue node (next, locked, guard), its request flag, its place in the step table, and the
+// private cells that the acts use.
 pub struct Row {
     pub next: u8,
     pub locked: u8,
@@ -22,6 +26,7 @@ pub struct Row {
     pub nx: u8,
 }
 
+// One value that holds its sixteen rows; `n` is the number of processors, `tail` document 01's L.
 pub struct LockState {
     pub edition: u8,
     pub n: u8,
@@ -29,6 +34,7 @@ pub struct LockState {
     pub rows: [Row; 16],
 }
 
+// What making the fresh state or an event answers: the refusal's number, 0 for accepted, and the state.
 pub struct Answer {
     pub refusal: u8,
     pub state: LockState,
@@ -40,30 +46,33 @@ impl Row {
     {
         Row {
             next: LockState::NONE,
-            locked: 0,
+            locked: LockState::RELEASED,
             guard: false,
             flag: false,
             place: 0,
-            pred: 255,
-            succ: 255,
-            nx: 255,
+            pred: LockState::NONE,
+            succ: LockState::NONE,
+            nx: LockState::NONE,
         }
     }
 }
 
 impl LockState {
+    // The limits.
     pub const PROCESSORS: u8 = 16;
 
     pub const PLACES: u8 = 23;
 
     pub const NONE: u8 = 255;
 
+    // The editions.
     pub const PLAIN: u8 = 0;
 
     pub const DRAWN: u8 = 1;
 
     pub const GUARDED: u8 = 2;
 
+    // What a locked cell may hold; RP is R_P, released while preempted.
     pub const RELEASED: u8 = 0;
 
     pub const LOCKED: u8 = 1;
