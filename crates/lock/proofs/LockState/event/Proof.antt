@@ -18,7 +18,7 @@ returns-3 c = simp (← c .before .before .before .before .before .is-sound .ens
 
 returns-4 : tie.Need-returns-4
 unfolding happens
-returns-4 c = simp (← c .before .before .before .before .before .before .before .is-sound .ensures, c .before .before .before .before .before .before .if1 .left, c .before .before .before .before .before .if2 .left, c .before .before .before .if3 .left, c .before .before .if4 .taken, ← c .before .stepped .ensures) (c .accepted .ensures)
+returns-4 c = simp (← c .before .before .before .before .before .before .before .is-sound .ensures, c .before .before .before .before .before .before .if1 .left, c .before .before .before .if3 .left, c .before .before .if4 .taken, ← c .before .stepped .ensures) (c .accepted .ensures)
 
 returns-5 : tie.Need-returns-5
 unfolding happens

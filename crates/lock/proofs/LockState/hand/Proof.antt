@@ -6,7 +6,7 @@ use Rattle.lock.proofs.LockState.hand.Tie as tie
 
 returns : tie.Need-returns
 unfolding hand
-returns c = simp (← c .before .before .before .before .before .row .ensures, ← c .before .before .before .before .row2 .ensures, c .before .before .if1 .taken, ← c .before .put-locked .ensures) (c .to .ensures)
+returns c = simp (← c .before .before .before .before .before .row .ensures, c .before .before .if1 .taken, ← c .before .put-locked .ensures) (c .to .ensures)
 
 returns-2 : tie.Need-returns-2
 unfolding hand
