@@ -1,6 +1,7 @@
 // Making the fresh state, and an event on a state, with their refusals.
 use crate::Answer;
 use crate::LockState;
+use crate::ROWS;
 use crate::Row;
 ghost use mathlib.Core.Path.{_≡_};
 ghost use Rattle.lock.specs.State.{freshState};
@@ -14,7 +15,7 @@ impl LockState {
             edition,
             n,
             tail: LockState::NONE,
-            rows: [Row::fresh(); 16],
+            rows: [Row::fresh(); ROWS],
         }
     }
 

@@ -13,6 +13,9 @@ pub mod laws;
 mod sound;
 mod table;
 
+// The limit as an array's length.
+const ROWS: usize = LockState::PROCESSORS as usize;
+
 // What belongs to one processor: its queue node (next, locked, guard), its request flag, its place in the step table, and the
 // private cells that the acts use.
 pub struct Row {
@@ -31,7 +34,7 @@ pub struct LockState {
     pub edition: u8,
     pub n: u8,
     pub tail: u8,
-    pub rows: [Row; 16],
+    pub rows: [Row; ROWS],
 }
 
 // What making the fresh state or an event answers: the refusal's number, 0 for accepted, and the state.

@@ -8,7 +8,7 @@ use lib.Seq.{set-out}
 use native.Mathlib.Omega.{arith}
 use Rattle.lock.specs.declared.Row.{Row}
 use Rattle.lock.specs.declared.LockState.{LockState}
-use Rattle.lock.specs.State.{putRow}
+use Rattle.lock.specs.State.{processors, putRow}
 use Rattle.lock.proofs.Rows.{length-mapped}
 use Rattle.lock.proofs.LockState.put_row.Statement.{statement}
 use Rattle.lock.proofs.LockState.put_row.Tie as tie
@@ -24,7 +24,7 @@ returns-2 : tie.Need-returns-2
 unfolding putRow with-rows
 returns-2 c =
     let a = c .before .args in
-    let n : length (a .self .rows) ≡ 16 = search (length-mapped, needs) in
+    let n : length (a .self .rows) ≡ processors = search (length-mapped, needs) in
     let h : length (a .self .rows) ≤ a .p = omega arith in
     ap (with-rows (a .self)) (sym (set-out (a .self .rows) (a .p) (a .r) h))
 

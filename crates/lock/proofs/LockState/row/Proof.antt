@@ -4,7 +4,7 @@ use Prim.Native.Nat.{_≤_}
 use lib.ListN.{length, List·getD-eq-default}
 use mathlib.Core.Path.{_∙_, sym, _≡_}
 use native.Mathlib.Omega.{arith}
-use Rattle.lock.specs.State.{freshRow, row}
+use Rattle.lock.specs.State.{processors, freshRow, row}
 use Rattle.lock.proofs.Rows.{row-within, length-mapped}
 use Rattle.lock.proofs.LockState.row.Statement.{statement}
 use Rattle.lock.proofs.LockState.row.Tie as tie
@@ -19,14 +19,14 @@ returns : tie.Need-returns
 unfolding row
 returns c =
     let a = c .before .before .args in
-    let n : length (a .t1 .rows) ≡ 16 = search (length-mapped, needs) in
+    let n : length (a .t1 .rows) ≡ processors = search (length-mapped, needs) in
     row-within (a .t1) (a .p) (omega arith)
 
 returns-2 : tie.Need-returns-2
 unfolding row
 returns-2 c =
     let a = c .before .before .args in
-    let n : length (a .t1 .rows) ≡ 16 = search (length-mapped, needs) in
+    let n : length (a .t1 .rows) ≡ processors = search (length-mapped, needs) in
     let h : length (a .t1 .rows) ≤ a .p = omega arith in
     c .fresh .ensures ∙ sym (List·getD-eq-default (a .t1 .rows) freshRow h)
 
