@@ -1,6 +1,7 @@
 pub mod Every
 pub mod Places
 pub mod Rows
+pub mod Opened
 pub mod Computed
 pub mod Single
 pub mod Keeping

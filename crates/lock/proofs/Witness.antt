@@ -5,35 +5,20 @@
 --     twice, past-the-bound          and so do at most once and the bound
 --     drawn                          what the guard buys: the drawn edition has no order, even without interrupts
 --     back                           the order with interrupts is not empty
-use Prim.Native.Nat.{ℕ, suc, _-_, _≤_, _<_}
+use Prim.Native.Nat.{ℕ, _-_, _≤_, _<_}
 use native.Mathlib.Omega.{arith}
 use mathlib.Core.Path.{_≡_, refl}
-use mathlib.Core.Bool.{Bool, true}
-use mathlib.Core.Logic.{_≢_}
+use mathlib.Core.Bool.{true}
 use mathlib.Core.List.{List, [], _∷_, _++_}
-use lib.ListN.{length, replicate}
+use lib.ListN.{replicate}
 use lib.Dec.{lit≤}
 use borrow.Author.Tests.{eqb-false}
-use Rattle.lock.specs.Choice.{every}
-use Rattle.lock.specs.State.{freshState, row, putRow, putTail, putNext, putLocked, putGuard, putFlag, to, putPred, putSucc, putNx}
-use Rattle.lock.specs.Sound.{hasPlace, cellsSound, placeSound, asFresh, soundRow, sound}
-use Rattle.lock.specs.Acts as Acts
-use Rattle.lock.specs.Table.{stepped}
-use Rattle.lock.specs.Event.{raised, happens}
-use Rattle.lock.specs.Run.{Call, after, run, stepsOf, joins, enters, interrupted}
-use Rattle.lock.specs.Count.{countIn, joinsIn, entriesIn, interruptsIn, allEntriesIn, latestJoin, untilEntry, between}
+use Rattle.lock.specs.Run.{Call, enters}
+use Rattle.lock.specs.Count.{entriesIn, interruptsIn, allEntriesIn}
 use Rattle.lock.specs.Claims.{reached, waited, Ordered, Waits, LastJoin}
+use Rattle.lock.specs.Sharp.{Order, Once, Bound, noInterrupt, oneAtMost, ClaimsAreSharp}
+use Rattle.lock.proofs.Opened.{computed}
 use Rattle.lock.proofs.Claimed.{nobody-later-enters, others-enter-once, waits-at-most}
-
--- what it takes to compute a schedule: to unfold this is to unfold all that its line names
-computed : Bool
-unfolding every freshState row putRow putTail putNext putLocked putGuard putFlag to putPred putSucc putNx hasPlace
-    cellsSound placeSound asFresh soundRow sound Acts.toQueue Acts.toHand Acts.onward Acts.toLift Acts.rest Acts.gate
-    Acts.clear Acts.swap Acts.arm Acts.link Acts.claim Acts.spin Acts.settle Acts.inside Acts.poll Acts.service
-    Acts.back Acts.regain Acts.look Acts.close Acts.await Acts.hand Acts.fence Acts.park Acts.peek Acts.take Acts.lift
-    stepped raised happens after run stepsOf joins enters interrupted countIn joinsIn entriesIn interruptsIn
-    allEntriesIn latestJoin untilEntry between
-computed = true
 
 abbrev step : ℕ → Call
 step p = record { event = 1; processor = p }
@@ -91,50 +76,23 @@ bound-met-plain :
 unfolding computed
 bound-met-plain = refl
 
--- ---- The claims with another premise on how many interrupts p takes, so that they can be seen to fail. With "none" they are
--- what is claimed.
+-- ---- With noInterrupt, the claims of Sharp are those of demand 3.
 
-abbrev Order : ℕ → ℕ → (ℕ → Type 0) → Type 0
-Order e n calm =
-    (before : List Call) (join : Call) (later : List Call) (p : ℕ)
-    → joins (reached e n before) join p ≡ true
-    → calm (interruptsIn (reached e n (before ++ join ∷ [])) (waited e n before join later p) p)
-    → (seen : List Call) (entry : Call) (unseen : List Call) (q : ℕ)
-    → waited e n before join later p ≡ seen ++ entry ∷ unseen
-    → enters (reached e n (before ++ join ∷ seen)) entry q ≡ true
-    → latestJoin (freshState e n) (before ++ join ∷ seen ++ entry ∷ []) q < suc (length before)
-
-abbrev Once : ℕ → ℕ → (ℕ → Type 0) → Type 0
-Once e n calm =
-    (before : List Call) (join : Call) (later : List Call) (p : ℕ)
-    → joins (reached e n before) join p ≡ true
-    → calm (interruptsIn (reached e n (before ++ join ∷ [])) (waited e n before join later p) p)
-    → (q : ℕ)
-    → q ≢ p
-    → entriesIn (reached e n (before ++ join ∷ [])) (waited e n before join later p) q ≤ 1
-
-abbrev Bound : ℕ → ℕ → (ℕ → Type 0) → Type 0
-Bound e n calm =
-    (before : List Call) (join : Call) (later : List Call) (p : ℕ)
-    → joins (reached e n before) join p ≡ true
-    → calm (interruptsIn (reached e n (before ++ join ∷ [])) (waited e n before join later p) p)
-    → allEntriesIn (reached e n (before ++ join ∷ [])) (waited e n before join later p) ≤ n - 1
-
-order-claimed : (e n : ℕ) → Ordered e n → Order e n (λ k. k ≡ 0)
+order-claimed : (e n : ℕ) → Ordered e n → Order e n noInterrupt
 order-claimed e n o before join later p j i =
     nobody-later-enters e n before join later p (record { ordered = o; joined = j; uninterrupted = i })
 
-once-claimed : (e n : ℕ) → Ordered e n → Once e n (λ k. k ≡ 0)
+once-claimed : (e n : ℕ) → Ordered e n → Once e n noInterrupt
 once-claimed e n o before join later p j i =
     others-enter-once e n before join later p (record { ordered = o; joined = j; uninterrupted = i })
 
-bound-claimed : (e n : ℕ) → Ordered e n → Bound e n (λ k. k ≡ 0)
+bound-claimed : (e n : ℕ) → Ordered e n → Bound e n noInterrupt
 bound-claimed e n o before join later p j i =
     waits-at-most e n before join later p (record { ordered = o; joined = j; uninterrupted = i })
 
 -- interrupt_passed: guarded, N 3. 1 joins (call 8) and takes an interrupt; 2 joins behind it (call 18) and enters while 1 is
 -- away. So one interrupt is too much for the order.
-passed : Order 2 3 (λ k. k ≤ 1) → ⊥
+passed : Order 2 3 oneAtMost → ⊥
 unfolding computed
 passed order =
     let later : 18 < 8 =
@@ -152,13 +110,13 @@ twiceBefore = steps 0 4 ++ steps 1 3
 abbrev twiceLater : List Call
 twiceLater = steps 1 4 ++ raise 1 ++ steps 1 1 ++ steps 0 25 ++ steps 1 6
 
-twice : Once 2 2 (λ k. k ≤ 1) → ⊥
+twice : Once 2 2 oneAtMost → ⊥
 unfolding computed
 twice once =
     let two : 2 ≤ 1 = once twiceBefore (step 1) twiceLater 1 refl (lit≤ tt) 0 (eqb-false 0 1 refl) in
     omega arith
 
-past-the-bound : Bound 2 2 (λ k. k ≤ 1) → ⊥
+past-the-bound : Bound 2 2 oneAtMost → ⊥
 unfolding computed
 past-the-bound bound =
     let two : 2 ≤ 1 = bound twiceBefore (step 1) twiceLater 1 refl (lit≤ tt) in
@@ -178,7 +136,7 @@ drawnSeen = steps 0 1 ++ steps 1 2 ++ steps 2 4 ++ steps 1 3 ++ steps 0 2 ++ ste
 abbrev drawnUnseen : List Call
 drawnUnseen = steps 2 3 ++ steps 1 4
 
-drawn : Order 1 3 (λ k. k ≡ 0) → ⊥
+drawn : Order 1 3 noInterrupt → ⊥
 unfolding computed
 drawn order =
     let later : 66 < 60 =
@@ -206,3 +164,46 @@ back-interrupted = refl
 back-waits-through : entriesIn (reached 2 3 (backBefore ++ step 2 ∷ [])) backWait 1 ≡ 1
 unfolding computed
 back-waits-through = refl
+
+pub claims-are-sharp : ClaimsAreSharp
+claims-are-sharp =
+    record {
+      met-guarded =
+          record {
+            before = metBefore;
+            join = step 0;
+            later = metLater;
+            entry = step 0;
+            p = 0;
+            waits = bound-met-waits;
+            enters-at-last = bound-met-enters;
+            entries = bound-met;
+          };
+      met-plain =
+          record {
+            before = plainBefore;
+            join = step 0;
+            later = plainLater;
+            entry = step 0;
+            p = 0;
+            waits = bound-met-plain-waits;
+            enters-at-last = bound-met-plain-enters;
+            entries = bound-met-plain;
+          };
+      order-needs-calm = passed;
+      once-needs-calm = twice;
+      bound-needs-calm = past-the-bound;
+      drawn-has-none = drawn;
+      kept =
+          record {
+            before = backBefore;
+            join = step 2;
+            wait = backWait;
+            entry = step 2;
+            p = 2;
+            q = 1;
+            last-join = back-last-join;
+            interrupt = back-interrupted;
+            meanwhile = back-waits-through;
+          };
+    }

@@ -10,5 +10,6 @@ pub mod Run
 pub mod Kept
 pub mod Count
 pub mod Claims
+pub mod Sharp
 pub mod Cases
 pub mod Unique

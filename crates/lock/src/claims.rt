@@ -1,5 +1,6 @@
 // Demand 3, shown as proved under its clauses' names: each function here is empty, and its contract is the claim. What the claims
 // say stands in specs/Claims.
+ghost use Rattle.lock.specs.Sharp.{ClaimsAreSharp};
 ghost use Rattle.lock.specs.Claims.{NeverTwoInside, NeverTwoInsideAnyEdition, NobodyLaterEnters, OthersEnterOnce, WaitsAtMost, NobodyOvertakes, CallsAreARun};
 
 // "two processors are never inside together"
@@ -35,4 +36,9 @@ pub fn nobody_overtakes()
 // any sequence of calls of `event` from `LockState::fresh` is a run
 pub fn calls_are_a_run()
     ensures { λ _. ⌜ CallsAreARun ⌝ }
+{}
+
+// The premises can be met, the bound is met, and one interrupt or the drawn edition is too much.
+pub fn claims_are_sharp()
+    ensures { λ _. ⌜ ClaimsAreSharp ⌝ }
 {}
