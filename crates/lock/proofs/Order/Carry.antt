@@ -8,6 +8,7 @@
 --     fenced-same, manned-same     a row of which the fences say the same
 --     fencing-map          a row whose fencing stays
 --     owner                who made a join that is still in the queue is in the queue
+--     books-pop            the books when one goes from the front
 use Prim.Native.Nat.{ℕ, suc, _<_, _≤_}
 use mathlib.Core.Path.{_≡_, refl, sym, ap, _∙_}
 use mathlib.Core.Bool.{Bool, true, false}
@@ -69,6 +70,21 @@ queued-map {g} {h} {G} {H} {q} {next} u same low grows who done =
 -- who made a join stays
 abbrev pub passed : Ghost → (a u : ℕ) → (ℕ → Bool) → ℕ → Ghost
 passed G a u W r = moved G a u (G .who) W r
+
+-- the books when one goes from the front and others stay behind it
+pub books-pop :
+    {g : Tickets} {G : Ghost} {t : ℕ} (u : ℕ) (W : ℕ → Bool) (r : ℕ) → Books g G t → suc (G .gone) < g .count
+    → suc (G .gone) ≤ u → u ≤ suc (suc (G .gone)) → Books g (passed G (suc (G .gone)) u W r) t
+books-pop {g} {G} u W r b more least most =
+    record {
+      low = omega arith;
+      least = least;
+      most = most;
+      known = λ i low high. b .known i (omega arith) high;
+      past = b .past;
+      empty = λ z. absurd (let k = b .empty z in omega arith);
+      last = λ z. (more, b .last z .1);
+    }
 
 -- what a change of the first half asks of each role, for q to keep its clauses
 pub record Asks (g : Tickets) (G : Ghost) (a u : ℕ) (W : ℕ → Bool) (r q next heir : ℕ) : Type 0 where

@@ -16,7 +16,7 @@ use Rattle.lock.proofs.Order.Tickets.{Tickets}
 use Rattle.lock.proofs.Order.Writes.{own-start, own-put, own-tail}
 use Rattle.lock.proofs.Order.Stages.{holding, stageAt}
 use Rattle.lock.proofs.Order.Statement.{Ghost, Holds}
-use Rattle.lock.proofs.Order.Carry.{passed, pass-fit}
+use Rattle.lock.proofs.Order.Carry.{passed, pass-fit, books-pop}
 use Rattle.lock.proofs.Order.Near.{before, served-first, pop-asks, there-some}
 use Rattle.lock.proofs.Order.Build.{own-holds, free-fit}
 use Rattle.lock.proofs.Order.Quiet.{mine, go}
@@ -42,15 +42,7 @@ module _ (s : LockState) (g : Tickets) (p : ℕ) (v : Holds s g) (room : p < len
       let done : G .linked (suc (G .gone)) ≡ true = sym (ap (G .linked) next-is) ∙ c .done in
       own-holds v (passed G (suc (G .gone)) (G .served) (G .linked) p)
       (own-put (λ r. withPlace r 17) (own-put (λ r. withSucc r (R .next)) (own-start s p room))) refl
-      (record {
-        low = omega arith;
-        least = omega arith;
-        most = omega arith;
-        known = λ i a b. v .books .known i (omega arith) b;
-        past = v .books .past;
-        empty = λ z. absurd (let k = v .books .empty z in omega arith);
-        last = λ z. (omega arith, v .books .last z .1);
-      })
+      (books-pop _ _ _ (v .books) (omega arith) (omega arith) (omega arith))
       (free-fit refl (f .small) (f .settles)
       (record {
         away = λ a b k. omega arith;

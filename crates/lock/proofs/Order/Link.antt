@@ -19,7 +19,7 @@ use Rattle.lock.proofs.Order.Writes.{by-same, both-start, both-own, bot
 use Rattle.lock.proofs.Order.Stages.{linking, claiming, stageAt}
 use Rattle.lock.proofs.Order.Roles.{Role, out, raw, wait, tok, rel, lag, joining, isSwapping, isQueued, isLifting, parked-out, parked-settled, queued-joined}
 use Rattle.lock.proofs.Order.Statement.{Ghost, upd, upd-same, upd-other, Queued, Raw, Wait, Tok, Duty, given-map, Fenced, Fit, FitRow, Holds}
-use Rattle.lock.proofs.Order.Carry.{passed, queued-map, Asks, pass, pass-fit}
+use Rattle.lock.proofs.Order.Carry.{passed, queued-map, Asks, pass, pass-fit, books-pop}
 use Rattle.lock.proofs.Order.Near.{same-join, before, roleRow, served-first, maker, queued-there, parked-tok-at}
 use Rattle.lock.proofs.Order.Build.{both-holds, free-fit, relock}
 use Rattle.lock.proofs.Order.Quiet.{mine, go}
@@ -251,15 +251,7 @@ module _ (s : LockState) (g : Tickets) (p : ℕ) (v : Holds s g) (room : p < len
           let fy = v .fits y in
           both-holds v (passed G (suc (G .gone)) (suc (G .served)) (G .linked) (G .releaser))
           (both-own (λ r. withPlace r 8) (both-near (λ r. withLocked r 0) (both-start s p y apart room (w .2)))) refl
-          (record {
-            low = omega arith;
-            least = omega arith;
-            most = omega arith;
-            known = λ i a b. v .books .known i (omega arith) b;
-            past = v .books .past;
-            empty = λ z. absurd (let k = v .books .empty z in omega arith);
-            last = λ z. (omega arith, v .books .last z .1);
-          })
+          (books-pop _ _ _ (v .books) (omega arith) (omega arith) (omega arith))
           (free-fit refl (f .small) (f .settles)
           (record {
             queued = queued-map (d .queued) refl (omega arith) (omega arith) (λ i b. refl) (λ i b z. z);

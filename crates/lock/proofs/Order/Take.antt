@@ -20,7 +20,7 @@ use Rattle.lock.proofs.Order.Writes.{by-same, own-start, own-put, Both,
 use Rattle.lock.proofs.Order.Stages.{peeking, taking, lifting, stageAt}
 use Rattle.lock.proofs.Order.Roles.{lag, joining, fences, isOpen, isLifting, parked-out, parked-settled, taking-lag}
 use Rattle.lock.proofs.Order.Statement.{Ghost, upd, upd-same, upd-other, upd-back, Books, Linked, Rel, Lag, given-map, Fencing, Fenced, Fit, FitRow, Holds}
-use Rattle.lock.proofs.Order.Carry.{passed, refenced, refence-books, pass-fit, fenced-same, manned-same, fencing-map, refence, refence-fit}
+use Rattle.lock.proofs.Order.Carry.{passed, refenced, refence-books, pass-fit, fenced-same, manned-same, fencing-map, refence, refence-fit, books-pop}
 use Rattle.lock.proofs.Order.Near.{duty-as, served-first, pop-asks, parked-tok-at}
 use Rattle.lock.proofs.Order.Build.{own-holds, both-holds, free-fit, relock}
 use Rattle.lock.proofs.Order.Quiet.{ordered-drawn, mine, lag-on}
@@ -126,15 +126,7 @@ module _ (s : LockState) (g : Tickets) (p : ℕ) (v : Holds s g) (room : p < len
       both-holds v (passed G (suc (G .gone)) (G .served) (G .linked) p)
       (both-own (λ r. withPlace r 22)
       (both-near (λ r. withLocked r Released) (both-start s p y (λ z. on .1 (sym z)) room (w .2)))) refl
-      (record {
-        low = omega arith;
-        least = omega arith;
-        most = omega arith;
-        known = λ i a b. v .books .known i (omega arith) b;
-        past = v .books .past;
-        empty = λ z. absurd (let k = v .books .empty z in omega arith);
-        last = λ z. (omega arith, v .books .last z .1);
-      })
+      (books-pop _ _ _ (v .books) (omega arith) (omega arith) (omega arith))
       (record {
         small = f .small;
         settles = f .settles;
