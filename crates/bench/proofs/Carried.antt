@@ -17,6 +17,7 @@ use lib.ListN.{length, take, drop, length-drop}
 use lib.Seq.{drop-drop}
 use borrow.Rule.Slice.PartMut.{midOf, putMid}
 use Rattle.lock.specs.declared.LockState.{LockState}
+use Rattle.lock.specs.Kept.{Whole}
 use Rattle.frame.specs.Reading.{restOf}
 use Rattle.frame.specs.Writing.{leaves}
 use Rattle.bench.specs.declared.turns.Turned.{Turned}
@@ -24,6 +25,7 @@ use Rattle.bench.specs.Log.{counted, turnOf, logFrom}
 use Rattle.bench.specs.Steps.{turned, filled, laterLog, linesRoom}
 use Rattle.bench.proofs.Sizes.{count-size, GoesOn, Stops, turn-size}
 use Rattle.bench.proofs.Fuel.{log-ends, log-turns}
+use Rattle.bench.proofs.Sound.{turn-whole}
 use Rattle.bench.proofs.Parts.{Put, put, filled-by}
 
 -- Where the loop stands: `out` was `buffer`, `at` bytes of it are written, and the log of `text` from the state
@@ -35,10 +37,11 @@ pub record Carried (text : List ℕ) (first : LockState) (buffer out rest : List
   pub kept : drop at out ≡ drop at buffer
   pub log : take at out ++ logFrom (length rest) s accepted rest ≡ laterLog first text
   pub fewer : accepted + length rest ≤ length text
+  pub sound : Whole s
 
-pub begins : (text : List ℕ) (s : LockState) (buffer : List ℕ) → linesRoom text ≤ length buffer →
+pub begins : (text : List ℕ) (s : LockState) (buffer : List ℕ) → linesRoom text ≤ length buffer → Whole s →
     Carried text s buffer buffer text s 0 0
-begins text s buffer h = record { long = refl; room = omega arith; kept = refl; log = refl; fewer = omega arith }
+begins text s buffer h w = record { long = refl; room = omega arith; kept = refl; log = refl; fewer = omega arith; sound = w }
 
 -- what is as it was from a place on is so from a later place on
 further : (at n : ℕ) (out buffer : List ℕ) → drop at out ≡ drop at buffer → drop (at + n) out ≡ drop (at + n) buffer
@@ -132,6 +135,7 @@ module _ (text : List ℕ) (first : LockState) (buffer out rest : List ℕ) (s :
                   ∙ sym (log-turns s accepted rest some ∙ simp on))
                   ∙ i .log;
               fewer = omega (arith, i .fewer, length-drop 9 rest);
+              sound = turn-whole s (accepted + 2) rest (i .sound);
             })
             (λ (z : Stops t). absurd (true≢false (sym on ∙ z .0)))
             (turn-size s (accepted + 2) rest))

@@ -3,6 +3,7 @@ pub mod Sizes
 pub mod Fuel
 pub mod Room
 pub mod Told
+pub mod Sound
 pub mod Parts
 pub mod Carried
 pub mod FirstLine

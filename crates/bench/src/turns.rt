@@ -5,6 +5,7 @@ use lock::LockState;
 ghost use mathlib.Core.Path.{_≡_};
 ghost use Prim.Native.Nat.{_≤_};
 ghost use lib.ListN.{length};
+ghost use Rattle.lock.specs.Kept.{Whole};
 ghost use Rattle.frame.specs.Writing.{leaves};
 ghost use Rattle.bench.specs.Log.{refusedAt, stopped, turnOf};
 ghost use Rattle.bench.specs.Steps.{turned, filled, eventTurn, laterLog, linesRoom};
@@ -16,12 +17,13 @@ pub(crate) struct Turned {
     pub state: LockState,
 }
 
-// The event on the state: its row shown, or the refusal of this line.
+// The event on the state: its row shown, or the refusal of this line. The state is sound since it was fresh, so nothing tests it.
 pub(crate) fn answer(out: &mut [u8], state: LockState, line: usize, event: u8, p: u8) -> Turned
+    requires { ⌜ Whole state ⌝ }
     ensures { λ r. ⌜ r ≡ turned (eventTurn state line event p) ⌝ }
     ensures { λ _. ⌜ now (out .exit) ≡ leaves (eventTurn state line event p .written) (now (out .entry)) ⌝ }
 {
-    let answer = state.event(event, p);
+    let answer = state.carried(event, p);
     let refusal = answer.refusal;
     let next = answer.state;
     let accepted = refusal == 0;
@@ -51,6 +53,7 @@ pub(crate) fn refuse(out: &mut [u8], state: LockState, refusal: u8, line: usize)
 
 // The line that begins the text.
 pub(crate) fn turn(out: &mut [u8], state: LockState, line: usize, text: &[u8]) -> Turned
+    requires { ⌜ Whole state ⌝ }
     ensures { λ r. ⌜ r ≡ turned (turnOf state line (now (text .entry))) ⌝ }
     ensures { λ _. ⌜ now (out .exit) ≡ leaves (turnOf state line (now (text .entry)) .written) (now (out .entry)) ⌝ }
 {
@@ -63,6 +66,7 @@ pub(crate) fn turn(out: &mut [u8], state: LockState, line: usize, text: &[u8]) -
 // The later lines, one after the other, from a state on: how many bytes are written.
 pub(crate) fn follow(out: &mut [u8], state: LockState, text: &[u8]) -> usize
     requires { ⌜ linesRoom (now text) ≤ length (now out) ⌝ }
+    requires { ⌜ Whole state ⌝ }
     ensures { λ r. ⌜ r ≡ length (laterLog state (now (text .entry))) ⌝ }
     ensures { λ _. ⌜ now (out .exit) ≡ filled (laterLog state (now (text .entry))) (now (out .entry)) ⌝ }
 {

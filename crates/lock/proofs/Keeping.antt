@@ -25,8 +25,8 @@ use Rattle.lock.specs.Sound.{places, hasPlace, placeSound, asFresh, soun
 use Rattle.lock.specs.Table.{names, placeAt, act, stepped, nowhere}
 use Rattle.lock.specs.Event.{accepted, refused, filler, fresh, isStep, isRaise, raised, happens}
 use Rattle.lock.specs.Run.{Call, after, run}
-use Rattle.lock.specs.Kept.{FreshIsSound, SoundIsKept, NeverUnsound}
-use Rattle.lock.proofs.Keeping.Parts.{Whole, Fits, Ready, standing, ready, whole}
+use Rattle.lock.specs.Kept.{Whole, FreshIsSound, SoundIsKept, NeverUnsound}
+use Rattle.lock.proofs.Keeping.Parts.{Fits, Ready, standing, ready, whole}
 use Rattle.lock.proofs.Keeping.Puts.{nothing, suits, suited, flag-kept}
 use Rattle.lock.proofs.Keeping.Acts.{rest-kept, gate-kept, clear-kept, swap-kept, arm-kept, link-kept, claim-kept, spin-kept, settle-kept, inside-kept, poll-kept, service-kept, back-kept, regain-kept, look-kept, close-kept, await-kept, hand-kept, fence-kept, park-kept, peek-kept, take-kept, lift-kept}
 
@@ -73,7 +73,7 @@ outcome true true true step s t u w f g = w
 outcome true true false true s t u w f g = f refl
 outcome true true false false s t u w f g = g refl
 
-event-kept : (s : LockState) (event p : ℕ) → Whole s → Whole ((happens s event p) .state)
+pub event-kept : (s : LockState) (event p : ℕ) → Whole s → Whole ((happens s event p) .state)
 unfolding happens raised
 event-kept s event p w =
     outcome (sound s) (isStep event || isRaise event) (leb (s .n) p) (isStep event) s (stepped s p) (raised s p) w
@@ -132,7 +132,7 @@ fresh-outcome false true high s f = fresh-whole 0 1 refl refl refl
 fresh-outcome false false true s f = fresh-whole 0 1 refl refl refl
 fresh-outcome false false false s f = f refl refl refl
 
-fresh-kept : (e n : ℕ) → Whole ((fresh e n) .state)
+pub fresh-kept : (e n : ℕ) → Whole ((fresh e n) .state)
 unfolding fresh
 fresh-kept e n =
     fresh-outcome (ltb 2 e) (eqb n 0) (ltb processors n) (freshState e n)

@@ -36,11 +36,14 @@ isRaise event = eqb event 2
 unfoldable pub raised : LockState → ℕ → LockState
 raised s p = putFlag s p true
 
--- "An event on a state: 11, 8, 9." 11: "the state handed in isn't sound"; 8: "event neither 1 nor 2"; 9: "processor not below N".
+-- An event on a state that is known to be sound. 8: "event neither 1 nor 2"; 9: "processor not below N".
 -- "An event refused gives the same state back."
-unfoldable pub happens : LockState → ℕ → ℕ → Answer
-happens s event p =
-    pick (not (sound s)) (refused 11 s)
-    (pick (not (isStep event || isRaise event)) (refused 8 s)
+abbrev pub carried : LockState → ℕ → ℕ → Answer
+carried s event p =
+    pick (not (isStep event || isRaise event)) (refused 8 s)
     (pick (leb (s .n) p) (refused 9 s)
-    (accepted (pick (isStep event) (stepped s p) (raised s p)))))
+    (accepted (pick (isStep event) (stepped s p) (raised s p))))
+
+-- "An event on a state: 11, 8, 9." 11: "the state handed in isn't sound"
+unfoldable pub happens : LockState → ℕ → ℕ → Answer
+happens s event p = pick (not (sound s)) (refused 11 s) (carried s event p)

@@ -11,6 +11,11 @@ use Rattle.lock.specs.Sound.{sound}
 use Rattle.lock.specs.Event.{fresh, happens}
 use Rattle.lock.specs.Run.{Call, run}
 
+-- A sound state with its sixteen rows. A value of the Rattle type always has them, but the list in a definition may be shorter.
+pub record Whole (s : LockState) : Type 0 where
+  pub rooms : length (s .rows) ≡ processors
+  pub fit : sound s ≡ true
+
 -- The fresh state is sound, and so is the filler that stands beside a refusal: nothing is asked of e and n.
 abbrev pub FreshIsSound : Type 0
 FreshIsSound = (e n : ℕ) → sound ((fresh e n) .state) ≡ true

@@ -5,7 +5,7 @@ use crate::ROWS;
 use crate::Row;
 ghost use mathlib.Core.Path.{_≡_};
 ghost use Rattle.lock.specs.State.{freshState};
-ghost use Rattle.lock.specs.Event.{fresh, happens, raised, accepted, refused};
+ghost use Rattle.lock.specs.Event.{fresh, happens, carried, raised, accepted, refused};
 
 impl LockState {
     fn fresh_state(edition: u8, n: u8) -> LockState
@@ -58,14 +58,11 @@ impl LockState {
         self.put_flag(p, true)
     }
 
-    // One event on a state: the next state, or refusal 11, 8 or 9 with the same state.
-    pub fn event(self, event: u8, p: u8) -> Answer
-        ensures { λ r. ⌜ r ≡ happens self event p ⌝ }
+    // One event on a state of which the soundness is not asked: the next state, or refusal 8 or 9 with the same state. For a
+    // caller that has kept the state sound since it was fresh.
+    pub fn carried(self, event: u8, p: u8) -> Answer
+        ensures { λ r. ⌜ r ≡ carried self event p ⌝ }
     {
-        let sound = self.is_sound();
-        if !sound {
-            return self.refused(11);
-        }
         let step = event == 1;
         let raise = event == 2;
         let unknown = !(step | raise);
@@ -81,6 +78,17 @@ impl LockState {
         } else {
             self.raised(p).accepted()
         }
+    }
+
+    // One event on a state: the next state, or refusal 11, 8 or 9 with the same state.
+    pub fn event(self, event: u8, p: u8) -> Answer
+        ensures { λ r. ⌜ r ≡ happens self event p ⌝ }
+    {
+        let sound = self.is_sound();
+        if !sound {
+            return self.refused(11);
+        }
+        self.carried(event, p)
     }
 
     // Event 1.

@@ -12,7 +12,8 @@ use Rattle.lock.specs.Choice.{pick, every}
 use Rattle.lock.specs.State.{none, isNone, isPlain, isDrawn, isGuarded, Released, Locked, Preempted, RP, row, putRow, putTail, putNext, putLocked, to, putPred, putSucc}
 use Rattle.lock.specs.Sound.{noneOrBelow, hasPlace}
 use Rattle.lock.specs.Acts as Acts
-use Rattle.lock.proofs.Keeping.Parts.{Whole, Known, Ready, standing}
+use Rattle.lock.specs.Kept.{Whole}
+use Rattle.lock.proofs.Keeping.Parts.{Known, Ready, standing}
 use Rattle.lock.proofs.Keeping.Puts.{put-next, put-locked, put-guard, put-flag, put-pred, put-succ, put-nx, put-tail, also, knowing, forgetting, pred-below, succ-below, suits, own-cells, lands, flag-kept}
 
 -- a choice of two states, by its test

@@ -1,6 +1,5 @@
 -- Soundness in parts: the statement that every put of an act keeps, made of soundness and made into it again. It is
 -- soundness but for the place of the processor p that steps, with what is known of the edition and of p's own cells.
---     Whole                sound, with all sixteen rows: what an act is given and what it has to give back
 --     Known                what is known: a test that the edition passes, and which of p's pred, succ and nx are there
 --     ButPlace             sound but for p's place
 --     Ready                both: what holds between the puts of an act
@@ -19,11 +18,8 @@ use Rattle.lock.specs.declared.LockState.{LockState}
 use Rattle.lock.specs.Choice.{every}
 use Rattle.lock.specs.State.{processors, row}
 use Rattle.lock.specs.Sound.{noneOrBelow, isThere, wantsPred, wantsSucc, wantsNx, hasPlace, cellsSound, placeSound, asFresh, soundRow, sound}
+use Rattle.lock.specs.Kept.{Whole}
 use Rattle.lock.proofs.Every.{every-at, every-from, and-left, and-right, and-both}
-
-pub record Whole (s : LockState) : Type 0 where
-  pub rooms : length (s .rows) ≡ processors
-  pub fit : sound s ≡ true
 
 pub record Known : Type 0 where
   pub editions : ℕ → Bool

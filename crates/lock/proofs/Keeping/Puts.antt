@@ -22,7 +22,8 @@ use Rattle.lock.specs.State.{isNone, row, putRow, withNext, withLocked, 
 use Rattle.lock.specs.Sound.{noneOrBelow, isThere, placeSound}
 use Rattle.lock.proofs.Every.{every-at, and-both}
 use Rattle.lock.proofs.Rows.{rows-put, row-put-same, row-put-other}
-use Rattle.lock.proofs.Keeping.Parts.{Whole, Known, HasIn, CellsIn, Fits, ButPlace, Ready, standing, parts, joint, by-same, row-place, ready, whole}
+use Rattle.lock.specs.Kept.{Whole}
+use Rattle.lock.proofs.Keeping.Parts.{Known, HasIn, CellsIn, Fits, ButPlace, Ready, standing, parts, joint, by-same, row-place, ready, whole}
 
 -- what holds of the row put and of the rows that were holds of every row
 put-every :

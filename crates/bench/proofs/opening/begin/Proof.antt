@@ -5,6 +5,7 @@ use mathlib.Core.Path.{ap}
 use denote.Ref.{now}
 use lib.ListN.{length, length-drop}
 use borrow.Author.Needs.{needs}
+use Rattle.lock.proofs.Keeping.{fresh-kept}
 use Rattle.bench.proofs.Room.{later-fits}
 use Rattle.bench.proofs.FirstLine.{later-room, begin-follows, begin-refuses}
 use Rattle.bench.proofs.opening.begin.Statement.{statement}
@@ -16,11 +17,13 @@ start-of w = w .before .before .before .before .before .before .before
 follow-requires : tie.Need-follow-requires
 follow-requires c κs =
     let w = c .before .before .before .before in
-    let s = start-of w in
-    later-room (now (s .args .schedule)) (now (s .args .out)) (w .before .before .before .before .fresh .result)
-    (s .pre .0)
-    (s .args .kind) (s .args .edition) (s .args .n) (s .pre .1) (w .write-frame .last .0) (w .write-frame .ensures .1)
-    (c .before .rest .result .now) (c .before .rest .ensures)
+    let s = start-of w in (
+      later-room (now (s .args .schedule)) (now (s .args .out)) (w .before .before .before .before .fresh .result)
+          (s .pre .0)
+          (s .args .kind) (s .args .edition) (s .args .n) (s .pre .1) (w .write-frame .last .0) (w .write-frame .ensures .1)
+          (c .before .rest .result .now) (c .before .rest .ensures),
+      rw (w .before .before .before .before .fresh .ensures) (fresh-kept (s .args .edition) (s .args .n)),
+    )
 
 add-result : tie.Need-add-result
 add-result c =

@@ -22,7 +22,7 @@ abbrev μ-loop : tie.MeasureT-loop
 loop-holds : tie.Need-loop-holds Inv-loop μ-loop
 loop-holds c =
     let s = c .before .before in
-    begins (now (s .args .text)) (s .args .state) (now (s .args .out)) (s .pre)
+    begins (now (s .args .text)) (s .args .state) (now (s .args .out)) (s .pre .0) (s .pre .1)
 
 -- the buffer is as long as it was, and what is written lies within it
 within : (l : tie.At-loop Inv-loop μ-loop) → l .loop .at ≤ length (l .loop .out)
@@ -41,7 +41,7 @@ add-turn : tie.Need-add-turn Inv-loop μ-loop
 add-turn c = omega (arith, c .before .before .loop .inv .fewer, c .before .before .before .before .before .good)
 
 turn-requires : tie.Need-turn-requires Inv-loop μ-loop
-turn-requires c κs = search needs
+turn-requires c κs = c .before .before .loop .inv .sound
 
 -- the laws of a turn, at the turn that was made
 abbrev loop-of : tie.After-turn Inv-loop μ-loop → tie.At-loop Inv-loop μ-loop
