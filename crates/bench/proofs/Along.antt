@@ -18,15 +18,12 @@ use lib.Dec.{eqb, ltb}
 use borrow.Author.Tests.{eq-eqb, le-ltb}
 use Rattle.lock.specs.declared.LockState.{LockState}
 use Rattle.lock.specs.declared.Answer.{Answer}
-use Rattle.lock.specs.Choice.{pick}
 use Rattle.lock.specs.State.{processors, freshState, row}
 use Rattle.lock.specs.Event.{fresh, happens, isStep, accepted, refused, filler}
 use Rattle.lock.specs.Run.{Call, after, run, stepsOf, enters}
 use Rattle.frame.specs.Reading.{reads, restOf}
-use Rattle.bench.specs.Log.{longest, counted, marks, shown}
-use Rattle.bench.specs.Log.{answered, followed, turnOf, logFrom, begun, opened, logOf}
-use Rattle.bench.specs.Bridge.{callOf, callsFrom, callsOf, rowsOf, areRead, areAccepted}
-use Rattle.bench.specs.Bridge.{editionOf, processorsOf, firstState, Accepted, EntryMark}
+use Rattle.bench.specs.Log.{longest, counted, marks, shown, answered, followed, turnOf, logFrom, begun, opened, logOf}
+use Rattle.bench.specs.Bridge.{callOf, callsFrom, callsOf, rowsOf, areRead, areAccepted, editionOf, processorsOf, firstState, Accepted, EntryMark}
 
 both : (a b : Bool) → a && b ≡ true → (a ≡ true) × (b ≡ true)
 both true b e = (refl, e)
@@ -65,8 +62,8 @@ later-is-run (suc fuel) s k (b ∷ text) e f =
 
 -- of the two tests of a fresh state, only their both failing gives 0
 by-two : (six seven : Bool) (a b c : Answer) → a .refusal ≡ 6 → b .refusal ≡ 7 →
-    pick six a (pick seven b c) .refusal ≡ 0 →
-    pick six a (pick seven b c) ≡ c
+    cond six a (cond seven b c) .refusal ≡ 0 →
+    cond six a (cond seven b c) ≡ c
 by-two true seven a b c p q e = absurd (omega arith)
 by-two false true a b c p q e = absurd (omega arith)
 by-two false false a b c p q e = refl

@@ -20,13 +20,13 @@ use Rattle.lock.specs.declared.LockState.{LockState}
 use Rattle.lock.specs.Kept.{Whole}
 use Rattle.frame.specs.Reading.{restOf}
 use Rattle.frame.specs.Writing.{leaves}
-use Rattle.bench.specs.declared.turns.Turned.{Turned}
 use Rattle.bench.specs.Log.{counted, turnOf, logFrom}
 use Rattle.bench.specs.Steps.{turned, filled, laterLog, linesRoom}
 use Rattle.bench.proofs.Sizes.{count-size, GoesOn, Stops, turn-size}
 use Rattle.bench.proofs.Fuel.{log-ends, log-turns}
 use Rattle.bench.proofs.Sound.{turn-whole}
 use Rattle.bench.proofs.Parts.{Put, put, filled-by}
+use Rattle.bench.specs.declared.turns.Turned.{Turned}
 
 -- Where the loop stands: `out` was `buffer`, `at` bytes of it are written, and the log of `text` from the state
 -- `first` on is what is written and what is still to come.

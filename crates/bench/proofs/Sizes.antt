@@ -19,8 +19,7 @@ use Rattle.lock.specs.Event.{happens}
 use Rattle.frame.specs.Reading.{kindOf, reads}
 use Rattle.frame.proofs.Refusals.{whole-line, by-order}
 use Rattle.frame.proofs.Proved.{lengths-are-known}
-use Rattle.bench.specs.Log.{high, low, refusedAt, counted, marks, shown}
-use Rattle.bench.specs.Log.{Turn, second, third, answered, followed, turnOf}
+use Rattle.bench.specs.Log.{high, low, refusedAt, counted, marks, shown, Turn, second, third, answered, followed, turnOf}
 
 pub row-size : (s : LockState) (event p : ℕ) → length (shown s event p) ≡ 17
 unfolding shown

@@ -7,8 +7,8 @@ use lib.ListN.{length, drop}
 use Rattle.lock.specs.declared.LockState.{LockState}
 use Rattle.lock.specs.Event.{happens}
 use Rattle.frame.specs.Reading.{reads}
-use Rattle.bench.specs.declared.turns.Turned.{Turned}
 use Rattle.bench.specs.Log.{Turn, answered, logFrom, opened}
+use Rattle.bench.specs.declared.turns.Turned.{Turned}
 
 -- a turn with its bytes counted
 abbrev pub turned : Turn → Turned

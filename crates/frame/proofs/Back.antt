@@ -16,8 +16,7 @@ use Rattle.frame.specs.Reading.{isTorn, areDigits, readAs, bytesOf}
 use Rattle.frame.specs.Writing.{digitsOf, lineOf}
 use Rattle.frame.proofs.Digits.{pair-below, pair-of-digits}
 use Rattle.frame.proofs.Sums.{sum-with-check, check-is-only}
-use Rattle.frame.proofs.Lines.{Bytes, digit-within, pairs-last, digits-length}
-use Rattle.frame.proofs.Lines.{digits-are-digits, pairs-of-digits, digits-of-pairs}
+use Rattle.frame.proofs.Lines.{Bytes, digit-within, pairs-last, digits-length, digits-are-digits, pairs-of-digits, digits-of-pairs}
 use Rattle.frame.proofs.Refusals.{whole-line, is-accepted}
 
 bytes-last : (vs : List ℕ) (v : ℕ) → Bytes vs → v < 256 → Bytes (vs ++ (v ∷ []))

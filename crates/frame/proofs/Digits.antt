@@ -16,8 +16,9 @@ use mathlib.Core.Bool.{Bool, true, false, not, _&&_, _||_, and-eq-true-iff}
 use mathlib.Core.Logic.{_⊎_, inl, inr, ⊎-elim}
 use lib.Dec.{leb, ltb, eqb}
 use borrow.Author.Tests.{leb-true, ltb-true, eqb-true}
-use Rattle.frame.specs.Pairs.{every, isDigit, valueOf, digitOf}
-use Rattle.frame.proofs.Every.{every-at}
+use Rattle.choice.specs.Every.{every}
+use Rattle.choice.proofs.Numbers.{every-at}
+use Rattle.frame.specs.Pairs.{isDigit, valueOf, digitOf}
 
 or-cases : (a b : Bool) → a || b ≡ true → (a ≡ true) ⊎ (b ≡ true)
 or-cases true b e = inl refl

@@ -1,5 +1,4 @@
 -- Laws that belong to no one function, from a test of every number up to the line, and document 01's worked lines.
-pub mod Every
 pub mod Digits
 pub mod Sums
 pub mod Lines

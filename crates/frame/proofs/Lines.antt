@@ -17,10 +17,10 @@ use mathlib.Core.Path.{_≡_, refl, sym, ap, _∙_}
 use mathlib.Core.Bool.{true}
 use mathlib.Core.List.{List, [], _∷_, _++_}
 use lib.ListN.{length, getD, take, length-append}
+use Rattle.choice.proofs.Numbers.{every-at, every-from}
 use Rattle.frame.specs.Pairs.{isDigit, digitOf, valueOf, byteAt, pairAt, pairsFrom, sumOf}
 use Rattle.frame.specs.Reading.{areDigits}
 use Rattle.frame.specs.Writing.{digitsOf, lineOf}
-use Rattle.frame.proofs.Every.{every-at, every-all}
 use Rattle.frame.proofs.Sums.{sum-of-last}
 use Rattle.frame.proofs.Digits.{digit-is-digit, pair-of-digits, digits-of-pair}
 
@@ -90,7 +90,7 @@ digit-at (v ∷ vs) text h (suc (suc i)) l = digit-at vs text (h .1) i (omega ar
 pub digits-are-digits : (vs text : List ℕ) → Bytes vs → areDigits (length vs) (digitsOf vs ++ text) ≡ true
 unfolding areDigits
 digits-are-digits vs text h =
-    every-all (2 * length vs) (λ i. isDigit (byteAt (digitsOf vs ++ text) i)) (digit-at vs text h)
+    every-from (2 * length vs) (λ i. isDigit (byteAt (digitsOf vs ++ text) i)) (digit-at vs text h)
 
 pub pairs-of-digits : (vs text : List ℕ) → Bytes vs → pairsFrom 0 (length vs) (digitsOf vs ++ text) ≡ vs
 unfolding pairsFrom pairAt digitsOf

@@ -10,8 +10,7 @@ use Rattle.frame.specs.declared.Line.the-variants.{Frame, Refused}
 use Rattle.frame.specs.Pairs.{pairsFrom}
 use Rattle.frame.specs.Reading.{told, kindOf}
 use Rattle.frame.specs.Writing.{digitsOf, lineOf}
-use Rattle.frame.specs.Laws.{DigitsAreInverse, CheckComesToZero, LengthsAreKnown}
-use Rattle.frame.specs.Laws.{WrittenIsReadBack, AcceptedIsWritten, OnlyOneAnswerFits}
+use Rattle.frame.specs.Laws.{DigitsAreInverse, CheckComesToZero, LengthsAreKnown, WrittenIsReadBack, AcceptedIsWritten, OnlyOneAnswerFits}
 use Rattle.frame.proofs.Digits.{digit-is-digit, value-of-digit, value-below, digit-of-value}
 use Rattle.frame.proofs.Sums.{sum-with-check}
 use Rattle.frame.proofs.Lines.{line-length}

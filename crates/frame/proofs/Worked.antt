@@ -4,7 +4,8 @@
 use mathlib.Core.Path.{_≡_, refl}
 use mathlib.Core.Bool.{true, false}
 use mathlib.Core.List.{[], _∷_}
-use Rattle.frame.specs.Pairs.{every, valueOf, digitOf, pairAt, pairsFrom, sumOf, checkOf}
+use Rattle.choice.specs.Every.{every}
+use Rattle.frame.specs.Pairs.{valueOf, digitOf, pairAt, pairsFrom, sumOf, checkOf}
 use Rattle.frame.specs.Reading.{isTorn, areDigits, readAs, reads}
 use Rattle.frame.specs.Writing.{digitsOf, lineOf, headerLine, rowLine, countLine, refusalLine}
 

@@ -6,11 +6,6 @@ use mathlib.Core.List.{List, [], _∷_}
 use lib.ListN.{getD}
 use lib.Dec.{ltb, leb}
 
--- the test holds of every number below n
-unfoldable pub every : ℕ → (ℕ → Bool) → Bool
-every zero f = true
-every (suc n) f = every n f && f n
-
 -- the line feed
 abbrev pub lineFeed : ℕ
 lineFeed = 10

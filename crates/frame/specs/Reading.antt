@@ -6,7 +6,8 @@ use lib.ListN.{length, drop}
 use lib.Dec.{eqb, ltb}
 use Rattle.frame.specs.declared.Line.{Line}
 use Rattle.frame.specs.declared.Line.the-variants.{Frame, Refused}
-use Rattle.frame.specs.Pairs.{every, lineFeed, isDigit, byteAt, pairAt, pairsFrom, sumOf}
+use Rattle.choice.specs.Every.{every}
+use Rattle.frame.specs.Pairs.{lineFeed, isDigit, byteAt, pairAt, pairsFrom, sumOf}
 
 -- What an answer says in document 01's terms: the refusal's number, 0 for none, and the frame's numbers. "The reader's refusal
 -- gives its number and no frame."

@@ -1,7 +1,6 @@
 // The laws of lines as contracts: an empty function promises each, so that a check names it. The statements are those
 // of `specs/Laws.antt`; nobody needs to call these.
-ghost use Rattle.frame.specs.Laws.{DigitsAreInverse, CheckComesToZero, LengthsAreKnown};
-ghost use Rattle.frame.specs.Laws.{WrittenIsReadBack, AcceptedIsWritten, RefusalsGoByOrder, OnlyOneAnswerFits};
+ghost use Rattle.frame.specs.Laws.{DigitsAreInverse, CheckComesToZero, LengthsAreKnown, WrittenIsReadBack, AcceptedIsWritten, RefusalsGoByOrder, OnlyOneAnswerFits};
 
 // The digit's rule for reading and its rule for writing are inverse to each other.
 pub fn digits_are_inverse()

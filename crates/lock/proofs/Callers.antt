@@ -3,13 +3,12 @@
 use Prim.Native.Nat.{ℕ, zero, suc, _≤_}
 use native.Mathlib.Omega.{arith}
 use mathlib.Core.Path.{_≡_, refl, sym, ap, _∙_, subst}
-use mathlib.Core.Bool.{Bool, true, false, _||_}
+use mathlib.Core.Bool.{Bool, true, false, _||_, cond}
 use mathlib.Core.List.{[], _∷_}
 use lib.Dec.{eqb, ltb}
 use borrow.Author.Tests.{ltb-false, eqb-false}
 use Rattle.lock.specs.declared.LockState.{LockState}
 use Rattle.lock.specs.declared.Answer.{Answer}
-use Rattle.lock.specs.Choice.{pick}
 use Rattle.lock.specs.State.{processors, isPlain, isDrawn, isGuarded, freshState}
 use Rattle.lock.specs.Event.{accepted, refused, filler, fresh}
 use Rattle.lock.specs.Run.{after, run}
@@ -25,7 +24,7 @@ edition-named (suc (suc (suc e))) h = absurd (omega arith)
 
 -- the fresh state's answer, by the outcomes of its tests
 abbrev freshBy : Bool → Bool → Bool → LockState → Answer
-freshBy over nobody many s = pick over (refused 6 filler) (pick (nobody || many) (refused 7 filler) (accepted s))
+freshBy over nobody many s = cond over (refused 6 filler) (cond (nobody || many) (refused 7 filler) (accepted s))
 
 module _ (e n : ℕ) where
   fresh-by : (over nobody many : Bool) → ltb 2 e ≡ over → eqb n 0 ≡ nobody → ltb processors n ≡ many

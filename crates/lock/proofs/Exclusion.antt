@@ -23,10 +23,10 @@ use Rattle.lock.proofs.Order.Tickets.{noTickets}
 use Rattle.lock.proofs.Order.Calls.{by-call, sound-bounds}
 use Rattle.lock.proofs.Order.Writes.{fresh-row}
 use Rattle.lock.proofs.Order.Stages.{holding, stageOf}
-use Rattle.lock.proofs.Exclusion.Token as Token
 use Rattle.lock.proofs.Exclusion.Token.{Sole, blind}
 use Rattle.lock.proofs.Exclusion.Steps.{rest-excl, gate-excl, clear-excl, swap-excl, arm-excl, link-excl, spin-excl, settle-excl, inside-excl, poll-excl, service-excl, back-excl, regain-excl, look-excl, close-excl, await-excl, fence-excl}
 use Rattle.lock.proofs.Exclusion.Moves.{claim-excl, hand-excl, park-excl, peek-excl, take-excl, lift-excl}
+use Rattle.lock.proofs.Exclusion.Token as Token
 
 pub Excl : LockState → Type 0
 Excl s = Token.Excl s

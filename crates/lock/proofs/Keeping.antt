@@ -10,7 +10,7 @@ use Prim.Native.Nat.{ℕ, zero, suc, _<_}
 use native.Mathlib.Nat.{not-suc-le-zero, eq-or-lt-of-le, le-of-suc-le-suc}
 use native.Mathlib.Omega.{arith}
 use mathlib.Core.Path.{_≡_, refl}
-use mathlib.Core.Bool.{Bool, true, false, not, _||_}
+use mathlib.Core.Bool.{Bool, true, false, not, _||_, cond}
 use mathlib.Core.Logic.{⊎-elim}
 use mathlib.Core.List.{List, [], _∷_}
 use lib.ListN.{getD, replicate, List·getD-eq-default}
@@ -19,7 +19,7 @@ use borrow.Author.Tests.{ltb-true, ltb-false, leb-true, leb-false, eqb-false, le
 use Rattle.lock.specs.declared.Row.{Row}
 use Rattle.lock.specs.declared.LockState.{LockState}
 use Rattle.lock.specs.declared.Answer.{Answer}
-use Rattle.lock.specs.Choice.{pick, every}
+use Rattle.choice.specs.Every.{every}
 use Rattle.lock.specs.State.{processors, freshRow, freshState, row}
 use Rattle.lock.specs.Sound.{places, hasPlace, placeSound, asFresh, sound}
 use Rattle.lock.specs.Table.{names, placeAt, act, stepped, nowhere}
@@ -65,8 +65,8 @@ step-kept {s} {p} w below =
 -- an event, by its tests: a sound state, an event that there is, a processor too high, a step
 outcome :
     (fit known high step : Bool) (s t u : LockState) → Whole s → (high ≡ false → Whole t) → (high ≡ false → Whole u)
-    → let checked = pick high (refused 9 s) (accepted (pick step t u)) in
-    Whole ((pick (not fit) (refused 11 s) (pick (not known) (refused 8 s) checked)) .state)
+    → let checked = cond high (refused 9 s) (accepted (cond step t u)) in
+    Whole ((cond (not fit) (refused 11 s) (cond (not known) (refused 8 s) checked)) .state)
 outcome false known high step s t u w f g = w
 outcome true false high step s t u w f g = w
 outcome true true true step s t u w f g = w
@@ -126,7 +126,7 @@ fresh-whole e n small least most =
 -- fresh, by its tests: an edition over 2, an N that is 0, an N over 16
 fresh-outcome :
     (over empty high : Bool) (s : LockState) → (over ≡ false → empty ≡ false → high ≡ false → Whole s)
-    → Whole ((pick over (refused 6 filler) (pick (empty || high) (refused 7 filler) (accepted s))) .state)
+    → Whole ((cond over (refused 6 filler) (cond (empty || high) (refused 7 filler) (accepted s))) .state)
 fresh-outcome true empty high s f = fresh-whole 0 1 refl refl refl
 fresh-outcome false true high s f = fresh-whole 0 1 refl refl refl
 fresh-outcome false false true s f = fresh-whole 0 1 refl refl refl
@@ -143,7 +143,7 @@ fresh-kept e n =
 
 -- 11 is given where the state is not sound, so an accepted event had a sound one
 accepted-sound :
-    (fit : Bool) (s : LockState) (rest : Answer) → (pick (not fit) (refused 11 s) rest) .refusal ≡ 0 → fit ≡ true
+    (fit : Bool) (s : LockState) (rest : Answer) → (cond (not fit) (refused 11 s) rest) .refusal ≡ 0 → fit ≡ true
 accepted-sound true s rest h = refl
 accepted-sound false s rest h = absurd (omega arith)
 

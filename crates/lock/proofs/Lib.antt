@@ -8,7 +8,6 @@
 --     Waiting                from the invariant to order, once and bound
 --     Callers                calls of the library are a run
 --     Claimed, Witness       the claims, and that they are sharp
-pub mod Every
 pub mod Places
 pub mod Rows
 pub mod Opened

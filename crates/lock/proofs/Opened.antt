@@ -1,14 +1,14 @@
 -- What it takes to compute a run: to unfold `computed` is to unfold every definition that its line names. The computed proofs,
 -- Computed and Witness, name it instead of the list.
 use mathlib.Core.Bool.{Bool, true}
-use Rattle.lock.specs.Choice.{every}
+use Rattle.choice.specs.Every.{every}
 use Rattle.lock.specs.State.{freshState, row, putRow, putTail, putNext, putLocked, putGuard, putFlag, to, putPred, putSucc, putNx}
 use Rattle.lock.specs.Sound.{hasPlace, cellsSound, placeSound, asFresh, soundRow, sound}
-use Rattle.lock.specs.Acts as Acts
 use Rattle.lock.specs.Table.{stepped}
 use Rattle.lock.specs.Event.{raised, happens}
 use Rattle.lock.specs.Run.{after, run, stepsOf, joins, enters, interrupted}
 use Rattle.lock.specs.Count.{countIn, joinsIn, entriesIn, interruptsIn, allEntriesIn, latestJoin, untilEntry, between}
+use Rattle.lock.specs.Acts as Acts
 
 unfoldable pub computed : Bool
 unfolding every freshState row putRow putTail putNext putLocked putGuard putFlag to putPred putSucc putNx hasPlace

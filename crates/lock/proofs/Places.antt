@@ -6,18 +6,19 @@
 use Prim.Native.Nat.{ℕ, _<_, _≤_}
 use native.Mathlib.Omega.{arith}
 use mathlib.Core.Path.{_≡_, refl, sym, _∙_, ap}
-use mathlib.Core.Bool.{Bool, true, false, _&&_, Bool·beq}
+use mathlib.Core.Bool.{Bool, true, false, _&&_, Bool·beq, cond}
 use mathlib.Core.List.{List, [], _∷_}
 use lib.ListN.{getD, List·getD-eq-default}
 use lib.Dec.{eqb, ltb}
 use borrow.Author.Tests.{ltb-true, ne-eqb, le-ltb}
 use Rattle.lock.specs.declared.Row.{Row}
 use Rattle.lock.specs.declared.LockState.{LockState}
-use Rattle.lock.specs.Choice.{pick, every}
+use Rattle.choice.specs.Every.{every}
+use Rattle.choice.proofs.Tests.{beq-eq, and-left, and-right}
+use Rattle.choice.proofs.Numbers.{Avoids, avoids-far, every-at}
 use Rattle.lock.specs.State.{row}
 use Rattle.lock.specs.Sound.{isIn, plainPlaces, drawnPlaces, hasPlace, places}
 use Rattle.lock.specs.Table.{Place, names, placeAt, act, stepped, nowhere}
-use Rattle.lock.proofs.Every.{every-at, beq-eq, and-left, and-right, Avoids, avoids-far}
 
 -- the code's constant, once more: the check holds the two together at the function that reads it
 abbrev pub has : List (List Bool)
@@ -68,7 +69,7 @@ not-in b k (x ∷ xs) e h =
     simp (ne-eqb x k (λ q. omega arith)) (not-in b k xs (and-right (ltb x b) (below b xs) e) h)
 
 -- whichever edition it is
-past : (a b c : Bool) (x y z : Bool) → x ≡ false → y ≡ false → z ≡ false → false ≡ pick a x (pick b y (pick c z false))
+past : (a b c : Bool) (x y z : Bool) → x ≡ false → y ≡ false → z ≡ false → false ≡ cond a x (cond b y (cond c z false))
 past true b c x y z ex ey ez = sym ex
 past false true c x y z ex ey ez = sym ey
 past false false true x y z ex ey ez = sym ez

@@ -8,7 +8,7 @@ use lib.Dec.{eqb}
 use Rattle.lock.specs.declared.Row.{Row}
 use Rattle.lock.specs.declared.LockState.{LockState}
 use Rattle.lock.specs.declared.Answer.{Answer}
-use Rattle.lock.specs.Choice.{every}
+use Rattle.choice.specs.Every.{every}
 use Rattle.lock.specs.State.{processors, none, RP, Preempted, row}
 use Rattle.lock.specs.Event.{fresh, happens}
 use Rattle.lock.specs.Run.{Call, after, run}

@@ -3,17 +3,16 @@
 -- s. In order: how many joins, entries and interrupts; the number of a latest join; the calls between a join and its
 -- entry. The claims stand in Claims.
 use Prim.Native.Nat.{ℕ, suc}
-use mathlib.Core.Bool.{Bool}
+use mathlib.Core.Bool.{Bool, cond}
 use mathlib.Core.List.{List, [], _∷_}
 use lib.Dec.{eqb}
 use Rattle.lock.specs.declared.LockState.{LockState}
-use Rattle.lock.specs.Choice.{pick}
 use Rattle.lock.specs.Run.{Call, after, joins, enters, interrupted}
 
 -- how many of the calls pass a test of the state before the call and of the call
 unfoldable pub countIn : (LockState → Call → Bool) → LockState → List Call → ℕ
 countIn test s [] = 0
-countIn test s (c ∷ cs) = let further = countIn test (after s c) cs in pick (test s c) (suc further) further
+countIn test s (c ∷ cs) = let further = countIn test (after s c) cs in cond (test s c) (suc further) further
 
 -- how often processor p joins
 unfoldable pub joinsIn : LockState → List Call → ℕ → ℕ
@@ -36,14 +35,14 @@ unfoldable pub latestJoin : LockState → List Call → ℕ → ℕ
 latestJoin s [] p = 0
 latestJoin s (c ∷ cs) p =
     let further = latestJoin (after s c) cs p in
-    pick (eqb further 0) (pick (joins s c p) 1 0) (suc further)
+    cond (eqb further 0) (cond (joins s c p) 1 0) (suc further)
 
 -- the calls up to processor p's first entry, that entry left out; all of them where it makes none
 unfoldable pub untilEntry : LockState → List Call → ℕ → List Call
 untilEntry s [] p = []
-untilEntry s (c ∷ cs) p = let further = untilEntry (after s c) cs p in pick (enters s c p) [] (c ∷ further)
+untilEntry s (c ∷ cs) p = let further = untilEntry (after s c) cs p in cond (enters s c p) [] (c ∷ further)
 
 -- "Between its join and its entry": p joins by the call `join` in state s, and the calls `later` follow. "If the swap
 -- finds no one, join and entry are one step": then nothing is between.
 unfoldable pub between : LockState → Call → List Call → ℕ → List Call
-between s join later p = pick (enters s join p) [] (untilEntry (after s join) later p)
+between s join later p = cond (enters s join p) [] (untilEntry (after s join) later p)

@@ -1,10 +1,9 @@
 -- Document 01, "Two events" and "What is turned away": making the fresh state, and an event on a state, with their refusals.
 use Prim.Native.Nat.{ℕ}
-use mathlib.Core.Bool.{Bool, true, not, _||_}
+use mathlib.Core.Bool.{Bool, true, not, _||_, cond}
 use lib.Dec.{eqb, ltb, leb}
 use Rattle.lock.specs.declared.LockState.{LockState}
 use Rattle.lock.specs.declared.Answer.{Answer}
-use Rattle.lock.specs.Choice.{pick}
 use Rattle.lock.specs.State.{processors, freshState, putFlag}
 use Rattle.lock.specs.Sound.{sound}
 use Rattle.lock.specs.Table.{stepped}
@@ -22,8 +21,8 @@ filler = freshState 0 1
 -- 6: "edition over 2"; 7: "N is 0 or over 16"
 unfoldable pub fresh : ℕ → ℕ → Answer
 fresh e n =
-    pick (ltb 2 e) (refused 6 filler)
-    (pick (eqb n 0 || ltb processors n) (refused 7 filler) (accepted (freshState e n)))
+    cond (ltb 2 e) (refused 6 filler)
+    (cond (eqb n 0 || ltb processors n) (refused 7 filler) (accepted (freshState e n)))
 
 -- "Two events: 1 step, 2 raise"
 abbrev pub isStep : ℕ → Bool
@@ -40,10 +39,10 @@ raised s p = putFlag s p true
 -- "An event refused gives the same state back."
 abbrev pub carried : LockState → ℕ → ℕ → Answer
 carried s event p =
-    pick (not (isStep event || isRaise event)) (refused 8 s)
-    (pick (leb (s .n) p) (refused 9 s)
-    (accepted (pick (isStep event) (stepped s p) (raised s p))))
+    cond (not (isStep event || isRaise event)) (refused 8 s)
+    (cond (leb (s .n) p) (refused 9 s)
+    (accepted (cond (isStep event) (stepped s p) (raised s p))))
 
 -- "An event on a state: 11, 8, 9." 11: "the state handed in isn't sound"
 unfoldable pub happens : LockState → ℕ → ℕ → Answer
-happens s event p = pick (not (sound s)) (refused 11 s) (carried s event p)
+happens s event p = cond (not (sound s)) (refused 11 s) (carried s event p)

@@ -1,6 +1,5 @@
 -- What must be believed of the lock, in document 01's order: the state, its soundness, the step table, the events; then runs,
 -- what is counted in them and the claims about them; then the P cases, soundness kept, and that only one answer fits.
-pub mod Choice
 pub mod State
 pub mod Sound
 pub mod Acts

@@ -1,11 +1,11 @@
 -- Document 01, "A state is sound when": each part in the document's order, the places of each edition as its three lists.
 use Prim.Native.Nat.{ℕ}
-use mathlib.Core.Bool.{Bool, false, not, _&&_, _||_}
+use mathlib.Core.Bool.{Bool, false, not, _&&_, _||_, cond}
 use mathlib.Core.List.{List, [], _∷_, _++_}
 use lib.Dec.{eqb, ltb, leb}
 use Rattle.lock.specs.declared.Row.{Row}
 use Rattle.lock.specs.declared.LockState.{LockState}
-use Rattle.lock.specs.Choice.{pick, every}
+use Rattle.choice.specs.Every.{every}
 use Rattle.lock.specs.State.{processors, isNone, isPlain, isDrawn, isGuarded, row}
 
 -- "23 rows": the places 0 to 22
@@ -27,7 +27,7 @@ drawnPlaces = plainPlaces ++ (6 ∷ 8 ∷ 10 ∷ 11 ∷ 12 ∷ 13 ∷ 19 ∷ 20 
 -- the place k is one that edition e has; "guarded has all of 0 to 22"
 unfoldable pub hasPlace : ℕ → ℕ → Bool
 hasPlace e k =
-    pick (isPlain e) (isIn plainPlaces k) (pick (isDrawn e) (isIn drawnPlaces k) (pick (isGuarded e) (ltb k places) false))
+    cond (isPlain e) (isIn plainPlaces k) (cond (isDrawn e) (isIn drawnPlaces k) (cond (isGuarded e) (ltb k places) false))
 
 -- "none or below N"
 abbrev pub noneOrBelow : ℕ → ℕ → Bool
@@ -69,7 +69,7 @@ asFresh r =
 -- "rows from N on are as fresh"; the rows below N have sound cells and a sound place
 unfoldable pub soundRow : LockState → ℕ → Bool
 soundRow s i =
-    pick (ltb i (s .n)) (cellsSound (s .n) (row s i) && placeSound (s .edition) (row s i)) (asFresh (row s i))
+    cond (ltb i (s .n)) (cellsSound (s .n) (row s i) && placeSound (s .edition) (row s i)) (asFresh (row s i))
 
 -- "edition and N are in range; L ... is none or below N", and each of the sixteen rows is sound
 unfoldable pub sound : LockState → Bool

@@ -3,9 +3,9 @@ use crate::LockState;
 use crate::Row;
 ghost use mathlib.Core.Path.{_≡_};
 ghost use Rattle.lock.specs.Sound as Sound;
-ghost use mathlib.Core.Bool.{_&&_};
+ghost use mathlib.Core.Bool.{_&&_, cond};
 ghost use lib.Dec.{ltb};
-ghost use Rattle.lock.specs.Choice.{pick, every};
+ghost use Rattle.choice.specs.Every.{every};
 ghost use Rattle.lock.specs.State.{processors};
 
 // Which places an edition has: a row for each place, a column for each edition (plain, drawn, guarded).
@@ -93,7 +93,7 @@ fn as_fresh(r: Row) -> bool
 
 // Row number i of a state of that edition and N.
 fn sound_row(edition: u8, n: u8, i: u8, r: Row) -> bool
-    ensures { λ b. ⌜ b ≡ pick (ltb i n) (Sound.cellsSound n r && Sound.placeSound edition r) (Sound.asFresh r) ⌝ }
+    ensures { λ b. ⌜ b ≡ cond (ltb i n) (Sound.cellsSound n r && Sound.placeSound edition r) (Sound.asFresh r) ⌝ }
 {
     let used = i < n;
     if used {

@@ -2,22 +2,21 @@
 -- the statement that at most one bears the token.
 use Prim.Native.Nat.{ℕ, _<_}
 use mathlib.Core.Path.{_≡_, refl, sym, ap, subst, _∙_}
-use mathlib.Core.Bool.{Bool, true, false}
+use mathlib.Core.Bool.{Bool, true, false, cond}
 use mathlib.Core.Logic.{_≢_}
 use lib.Dec.{eqb, leb}
 use lib.ListN.{length, length-set}
 use borrow.Author.Tests.{eqb-true, not-true}
 use Rattle.lock.specs.declared.Row.{Row}
 use Rattle.lock.specs.declared.LockState.{LockState}
-use Rattle.lock.specs.Choice.{pick}
+use Rattle.choice.proofs.Tests.{clash, by-test}
 use Rattle.lock.specs.State.{processors, none, isNone, isPlain, isDrawn, Released, Locked, Preempted, RP, withLocked, withGuard, withPlace, withSucc, withNx, row, putRow, putLocked, putGuard, to, putSucc, putNx}
-use Rattle.lock.specs.Acts as Acts
-use Rattle.lock.proofs.Order.Choices.{clash, by-test}
 use Rattle.lock.proofs.Rows.{rows-put}
 use Rattle.lock.proofs.Order.Writes.{Own, own-start, own-put, own-all, put-all, row-there}
 use Rattle.lock.proofs.Order.Stages.{Stage, claiming, handing, parking, peeking, taking, lifting, stageAt}
 use Rattle.lock.proofs.Exclusion.Token.{locks, bears, Sole, SoleRow, bearsRow, Excl, parked-bears, parked-left, free-locks, parked-locks, quiet, blind}
 use Rattle.lock.proofs.Exclusion.Steps.{still, go, mine, settled, kept-place}
+use Rattle.lock.specs.Acts as Acts
 
 -- a state in which only p's row is still to be written: h is the bearer, p has none or will be the bearer, p's locked
 -- is Released
@@ -149,7 +148,7 @@ module _ (s : LockState) (p : ℕ) (x : Excl s) (room : p < length (s .rows)) wh
       by-test Excl (eqb ((row s (R .succ)) .locked) Locked) (λ b. handed e)
       (λ b. by-next (isDrawn (s .edition))))
     where
-      by-next : (b : Bool) → Excl (to s p (pick b 19 18))
+      by-next : (b : Bool) → Excl (to s p (cond b 19 18))
       by-next true = go s p x room 19 e (λ h t f. still f (f .settled) (λ u. u))
       by-next false = go s p x room 18 e (λ h t f. still f (f .settled) (λ u. u))
 

@@ -2,7 +2,7 @@
 -- token. The token is made at 3 where the tail is none, and goes at 15 together with the tail.
 use Prim.Native.Nat.{ℕ, _<_}
 use mathlib.Core.Path.{_≡_, refl, sym, ap, _∙_}
-use mathlib.Core.Bool.{Bool, true, false, _&&_, _||_}
+use mathlib.Core.Bool.{Bool, true, false, _&&_, _||_, cond}
 use mathlib.Core.Logic.{_≢_}
 use native.Mathlib.Omega.{arith}
 use lib.Dec.{eqb}
@@ -10,14 +10,13 @@ use lib.ListN.{length, length-set}
 use borrow.Author.Tests.{eqb-true}
 use Rattle.lock.specs.declared.Row.{Row}
 use Rattle.lock.specs.declared.LockState.{LockState}
-use Rattle.lock.specs.Choice.{pick}
+use Rattle.choice.proofs.Tests.{clash, left-of, by-test}
 use Rattle.lock.specs.State.{none, isNone, isPlain, isGuarded, withNext, withLocked, withGuard, withFlag, withPlace, withPred, withSucc, row, putRow, putTail, putNext, putLocked, putGuard, putFlag, to, putPred, putSucc}
-use Rattle.lock.specs.Acts as Acts
-use Rattle.lock.proofs.Order.Choices.{clash, left-of, by-test}
 use Rattle.lock.proofs.Rows.{rows-put}
 use Rattle.lock.proofs.Order.Writes.{own-start, own-put, own-tail, own-all, put-all}
 use Rattle.lock.proofs.Order.Stages.{Stage, resting, clearing, swapping, arming, linking, spinning, settling, holding, serving, regaining, fencing, stageAt}
 use Rattle.lock.proofs.Exclusion.Token.{locks, bears, Sole, SoleRow, Excl, quiet, blind}
+use Rattle.lock.specs.Acts as Acts
 
 -- a row that is in order and bears no more than before
 pub still :
@@ -56,7 +55,7 @@ module _ (s : LockState) (p : ℕ) (x : Excl s) (room : p < length (s .rows)) wh
       (go 1 e (λ h t f. record { settled = free; one = λ u. clash u refl }))
       (go 2 e (λ h t f. record { settled = free; one = λ u. clash u refl }))
     where
-      by-pick : (b : Bool) → Excl (to s p 1) → Excl (to s p 2) → Excl (to s p (pick b 1 2))
+      by-pick : (b : Bool) → Excl (to s p 1) → Excl (to s p 2) → Excl (to s p (cond b 1 2))
       by-pick true y z = y
       by-pick false y z = z
 
@@ -150,7 +149,7 @@ module _ (s : LockState) (p : ℕ) (x : Excl s) (room : p < length (s .rows)) wh
   unfolding Acts.swap to putTail putPred putRow
   swap-excl e = by-tail (isNone (s .tail)) refl
     where
-      by-tail : (b : Bool) → isNone (s .tail) ≡ b → Excl (to (putTail (putPred s p (s .tail)) p) p (pick b 9 4))
+      by-tail : (b : Bool) → isNone (s .tail) ≡ b → Excl (to (putTail (putPred s p (s .tail)) p) p (cond b 9 4))
       by-tail true g =
           record {
             rooms = simp length-set (x .rooms);
@@ -212,7 +211,7 @@ module _ (s : LockState) (p : ℕ) (x : Excl s) (room : p < length (s .rows)) wh
     where
       by-next :
           (b : Bool) (t : LockState) → Excl t → p < length (t .rows) → stageAt ((row t p) .place) ≡ linking
-          → Excl (to t p (pick b 7 6))
+          → Excl (to t p (cond b 7 6))
       by-next true t z h e = go t p z h 7 e (λ h t f. still f (f .settled) (λ u. u))
       by-next false t z h e = go t p z h 6 e (λ h t f. still f (f .settled) (λ u. u))
 

@@ -15,9 +15,9 @@ use lib.Dec.{eqb, leb}
 use lib.ListN.{length}
 use Rattle.lock.specs.declared.Row.{Row}
 use Rattle.lock.specs.declared.LockState.{LockState}
-use Rattle.lock.specs.Choice.{every}
+use Rattle.choice.specs.Every.{every}
+use Rattle.choice.proofs.Tests.{implies, implied}
 use Rattle.lock.specs.State.{processors, none, isNone, Released, Preempted, RP, row, putRow}
-use Rattle.lock.proofs.Order.Choices.{implies, implied}
 use Rattle.lock.proofs.Rows.{rows-put}
 use Rattle.lock.proofs.Order.Writes.{Own, own-all, put-all}
 use Rattle.lock.proofs.Order.Stages.{Stage, resting, clearing, swapping, arming, linking, claiming, spinning, settling, holding, serving, regaining, handing, fencing, parking, peeking, taking, lifting, stageAt, stage-by}

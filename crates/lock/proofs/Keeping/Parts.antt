@@ -15,11 +15,12 @@ use lib.Dec.{eqb, ltb, leb}
 use borrow.Author.Tests.{ltb-true, ltb-false, leb-true, eqb-true, eqb-false, lt-ltb, le-ltb}
 use Rattle.lock.specs.declared.Row.{Row}
 use Rattle.lock.specs.declared.LockState.{LockState}
-use Rattle.lock.specs.Choice.{every}
+use Rattle.choice.specs.Every.{every}
+use Rattle.choice.proofs.Numbers.{every-from, every-at, by-same}
+use Rattle.choice.proofs.Tests.{and-left, and-right, and-both}
 use Rattle.lock.specs.State.{processors, row}
 use Rattle.lock.specs.Sound.{noneOrBelow, isThere, wantsPred, wantsSucc, wantsNx, hasPlace, cellsSound, placeSound, asFresh, soundRow, sound}
 use Rattle.lock.specs.Kept.{Whole}
-use Rattle.lock.proofs.Every.{every-at, every-from, and-left, and-right, and-both}
 
 pub record Known : Type 0 where
   pub editions : ℕ → Bool
@@ -107,14 +108,6 @@ place-tells e r h =
     let b = isThere (k .succ) (r .succ) in
     let c = parts true (hasPlace e (r .place)) a b (isThere (k .nx) (r .nx)) h in
     (c .1, record { pred = c .2; succ = c .3; nx = c .4 })
-
--- a statement of every number, by whether the number is p
-pub by-same : (F : ℕ → Type 0) (p : ℕ) → F p → ((i : ℕ) → i ≢ p → F i) → (i : ℕ) → F i
-by-same F p same other i = go (eqb i p) refl
-  where
-    go : (b : Bool) → eqb i p ≡ b → F i
-    go true e = rw (eqb-true i p e) same
-    go false e = other i (eqb-false i p e)
 
 module _ (s : LockState) where
   -- short for this section

@@ -17,13 +17,14 @@ use lib.Dec.{leb}
 use borrow.Author.Tests.{ltb-true, leb-true, not-true}
 use Rattle.lock.specs.declared.Row.{Row}
 use Rattle.lock.specs.declared.LockState.{LockState}
-use Rattle.lock.specs.Choice.{every}
+use Rattle.choice.specs.Every.{every}
+use Rattle.choice.proofs.Tests.{and-both}
+use Rattle.choice.proofs.Numbers.{by-same, every-at}
 use Rattle.lock.specs.State.{isNone, row, putRow, withNext, withLocked, withGuard, withFlag, withPlace, withPred, withSucc, withNx, putTail, putNext, putLocked, putGuard, putFlag, to, putPred, putSucc, putNx}
 use Rattle.lock.specs.Sound.{noneOrBelow, isThere, placeSound}
-use Rattle.lock.proofs.Every.{every-at, and-both}
-use Rattle.lock.proofs.Rows.{rows-put, row-put-same, row-put-other}
 use Rattle.lock.specs.Kept.{Whole}
-use Rattle.lock.proofs.Keeping.Parts.{Known, HasIn, CellsIn, Fits, ButPlace, Ready, standing, parts, joint, by-same, row-place, ready, whole}
+use Rattle.lock.proofs.Rows.{rows-put, row-put-same, row-put-other}
+use Rattle.lock.proofs.Keeping.Parts.{Known, HasIn, CellsIn, Fits, ButPlace, Ready, standing, parts, joint, row-place, ready, whole}
 
 -- what holds of the row put and of the rows that were holds of every row
 put-every :

@@ -6,15 +6,14 @@
 --     relock                       another locked on a row that may be fenced
 use Prim.Native.Nat.{ℕ, suc}
 use mathlib.Core.Path.{_≡_, sym, subst, _∙_}
-use mathlib.Core.Bool.{Bool, true, not, _&&_}
+use mathlib.Core.Bool.{Bool, true, not, _&&_, cond}
 use mathlib.Core.Logic.{_≢_}
 use lib.Dec.{leb}
 use borrow.Author.Tests.{not-true}
 use Rattle.lock.specs.declared.Row.{Row}
 use Rattle.lock.specs.declared.LockState.{LockState}
-use Rattle.lock.specs.Choice.{pick}
+use Rattle.choice.proofs.Tests.{and-left, and-right}
 use Rattle.lock.specs.State.{isNone, row}
-use Rattle.lock.proofs.Order.Choices.{and-left, and-right}
 use Rattle.lock.proofs.Order.Tickets.{Tickets, isOrdered}
 use Rattle.lock.proofs.Order.Writes.{Own, own-all, Both, both-all}
 use Rattle.lock.proofs.Order.Stages.{Stage, fencing, peeking}
@@ -66,7 +65,7 @@ isFree st = not (joining st) && not (isSwapping st) && not (fences st) && not (i
 
 pub free-fit :
     {e : ℕ} {g : Tickets} {G : Ghost} {q : ℕ} {st : Stage} {l next pred succ nx : ℕ} {guard : Bool} → isFree st ≡ true
-    → leb l 3 ≡ true → settled st l ≡ true → Duty (role st l (isNone nx)) g G q next succ (pick (isLifting st) nx succ)
+    → leb l 3 ≡ true → settled st l ≡ true → Duty (role st l (isNone nx)) g G q next succ (cond (isLifting st) nx succ)
     → (G .fencer q ≢ 0 → Fenced (G .lagged q) (G .peeked q) l next guard) → (guard ≡ true → (e ≢ 0) × (G .fencer q ≢ 0))
     → ((x : ℕ) → G .fencer x ≢ suc q)
     → Fit e g G q st l next pred succ nx guard

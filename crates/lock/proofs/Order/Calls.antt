@@ -5,7 +5,7 @@
 --     sound-plain      in the plain edition each row's place is one that this edition has
 use Prim.Native.Nat.{ℕ, zero, suc, _<_, _≤_}
 use mathlib.Core.Path.{_≡_, refl, subst}
-use mathlib.Core.Bool.{Bool, true, false, not, _&&_, _||_}
+use mathlib.Core.Bool.{Bool, true, false, not, _&&_, _||_, cond}
 use mathlib.Core.Logic.{⊎-elim}
 use native.Mathlib.Omega.{arith}
 use native.Mathlib.Nat.{eq-or-lt-of-le, le-of-suc-le-suc}
@@ -14,36 +14,37 @@ use borrow.Author.Tests.{leb-true, leb-false, eqb-true, eq-eqb}
 use Rattle.lock.specs.declared.Row.{Row}
 use Rattle.lock.specs.declared.LockState.{LockState}
 use Rattle.lock.specs.declared.Answer.{Answer}
-use Rattle.lock.specs.Choice.{pick, every}
+use Rattle.choice.specs.Every.{every}
+use Rattle.choice.proofs.Tests.{and-left, and-right}
+use Rattle.choice.proofs.Numbers.{every-at}
 use Rattle.lock.specs.State.{processors, isNone, row}
 use Rattle.lock.specs.Sound.{noneOrBelow, hasPlace, cellsSound, placeSound, wantsPred, wantsSucc, wantsNx, isThere, asFresh, soundRow, sound}
 use Rattle.lock.specs.Table.{stepped}
 use Rattle.lock.specs.Event.{accepted, refused, isStep, isRaise, raised, happens}
 use Rattle.lock.specs.Run.{Call, after, stepsOf, joins}
-use Rattle.lock.proofs.Order.Choices.{and-left, and-right}
 use Rattle.lock.proofs.Order.Tickets.{Tickets, ticketed}
 
 -- the tickets after p has joined
 abbrev pub joined : Tickets → ℕ → Tickets
-joined g p = record { count = suc (g .count); latest = λ q. pick (eqb q p) (g .count) (g .latest q) }
+joined g p = record { count = suc (g .count); latest = λ q. cond (eqb q p) (g .count) (g .latest q) }
 
 -- the tickets after p has stepped
 abbrev pub stepTickets : LockState → Tickets → ℕ → Tickets
-stepTickets s g p = pick (eqb ((row s p) .place) 3) (joined g p) g
+stepTickets s g p = cond (eqb ((row s p) .place) 3) (joined g p) g
 
 abbrev answer : Bool → Bool → Bool → LockState → LockState → Answer
-answer fit event high s t = pick (not fit) (refused 11 s)
-    (pick (not event) (refused 8 s) (pick high (refused 9 s) (accepted t)))
+answer fit event high s t = cond (not fit) (refused 11 s)
+    (cond (not event) (refused 8 s) (cond high (refused 9 s) (accepted t)))
 
 -- by-call's cases, the tests as Booleans: a sound state, an event, a processor too high, a step, the caller itself, a
 -- join
 outcome :
     (P : LockState → Tickets → Type 0) (fit event high step own join : Bool) (s t u : LockState) (g h : Tickets)
     → own ≡ true → P s g
-    → (fit ≡ true → high ≡ false → P t (pick join h g))
+    → (fit ≡ true → high ≡ false → P t (cond join h g))
     → (fit ≡ true → high ≡ false → P u g)
-    → P ((answer fit event high s (pick step t u)) .state)
-    (pick (eqb ((answer fit event high s (pick step t u)) .refusal) 0 && step && own && join) h g)
+    → P ((answer fit event high s (cond step t u)) .state)
+    (cond (eqb ((answer fit event high s (cond step t u)) .refusal) 0 && step && own && join) h g)
 outcome P false event high step own join s t u g h o same stepped raised = same
 outcome P true false high step own join s t u g h o same stepped raised = same
 outcome P true true true step own join s t u g h o same stepped raised = same
@@ -62,15 +63,6 @@ by-call P s g c same step raise =
     (eqb ((row s p) .place) 3)
     s (stepped s p) (raised s p) g (joined g p) (eq-eqb p p refl) same
     (λ fit high. step fit (leb-false (s .n) p high)) (λ fit high. raise fit (leb-false (s .n) p high))
-
--- what holds of every number below n holds of each
-pub every-at : (n : ℕ) (f : ℕ → Bool) (i : ℕ) → every n f ≡ true → i < n → f i ≡ true
-unfolding every
-every-at zero f i e h = absurd (omega arith)
-every-at (suc n) f i e h =
-    ⊎-elim (λ same. rw same (and-right (every n f) (f n) e))
-    (λ less. every-at n f i (and-left (every n f) (f n) e) less)
-    (eq-or-lt-of-le (le-of-suc-le-suc h))
 
 -- sound's five parts, of which the third and the fifth are used
 parts : (a b c d e : Bool) → a && b && c && d && e ≡ true → (c ≡ true) × (e ≡ true)
@@ -111,7 +103,7 @@ fresh-place r h =
 pub sound-plain :
     (s : LockState) (q : ℕ) → sound s ≡ true → s .edition ≡ 0 → q < processors → hasPlace 0 ((row s q) .place) ≡ true
 unfolding soundRow hasPlace
-sound-plain s q fit e h = by-bound (ltb q (s .n)) refl (every-at processors (soundRow s) q (sound-parts s fit .1) h)
+sound-plain s q fit e h = by-bound (ltb q (s .n)) refl (every-at processors (soundRow s) (sound-parts s fit .1) q h)
   where
     by-bound : (b : Bool) → ltb q (s .n) ≡ b → soundRow s q ≡ true → hasPlace 0 ((row s q) .place) ≡ true
     by-bound true b one =

@@ -11,10 +11,9 @@
 --     books-pop            the books when one goes from the front
 use Prim.Native.Nat.{ℕ, suc, _<_, _≤_}
 use mathlib.Core.Path.{_≡_, refl, sym, ap, _∙_}
-use mathlib.Core.Bool.{Bool, true, false}
+use mathlib.Core.Bool.{Bool, true, false, cond}
 use mathlib.Core.Logic.{_≢_}
 use native.Mathlib.Omega.{arith}
-use Rattle.lock.specs.Choice.{pick}
 use Rattle.lock.specs.State.{none, isNone}
 use Rattle.lock.proofs.Order.Tickets.{Tickets}
 use Rattle.lock.proofs.Order.Stages.{Stage}
@@ -121,13 +120,13 @@ module _ (g : Tickets) (G : Ghost) (a u : ℕ) (W : ℕ → Bool) (r : ℕ) (mor
 
   pub pass-fit :
       {e q : ℕ} {st : Stage} {l next pred succ nx : ℕ} {guard : Bool}
-      → Asks g G a u W r q next (pick (isLifting st) nx succ)
+      → Asks g G a u W r q next (cond (isLifting st) nx succ)
       → Fit e g G q st l next pred succ nx guard → Fit e g (passed G a u W r) q st l next pred succ nx guard
   pass-fit {q = q} {st = st} {l = l} {next = next} {succ = succ} {nx = nx} k f =
       record {
         small = f .small;
         settles = f .settles;
-        duty = pass (role st l (isNone nx)) q next succ (pick (isLifting st) nx succ) k (f .duty);
+        duty = pass (role st l (isNone nx)) q next succ (cond (isLifting st) nx succ) k (f .duty);
         joins = given-map (joining st) (λ b j i x y. j i x (omega arith)) (f .joins);
         blank = f .blank;
         fencing = f .fencing;
@@ -197,7 +196,7 @@ module _ (g : Tickets) (G : Ghost) (F : ℕ → ℕ) (K : ℕ → Bool) (Z : ℕ
       record {
         small = f .small;
         settles = f .settles;
-        duty = refence (role st l (isNone nx)) q next succ (pick (isLifting st) nx succ) la (f .duty);
+        duty = refence (role st l (isNone nx)) q next succ (cond (isLifting st) nx succ) la (f .duty);
         joins = f .joins;
         blank = f .blank;
         fencing = fe (f .fencing);

@@ -9,13 +9,13 @@ use lib.ListN.{length}
 use borrow.Author.Tests.{not-true}
 use Rattle.lock.specs.declared.Row.{Row}
 use Rattle.lock.specs.declared.LockState.{LockState}
+use Rattle.choice.proofs.Tests.{clash}
+use Rattle.choice.proofs.Numbers.{by-same}
 use Rattle.lock.specs.State.{none, isNone, withGuard, withPlace, row, putRow, putGuard, to}
 use Rattle.lock.specs.Sound.{sound}
-use Rattle.lock.specs.Acts as Acts
-use Rattle.lock.proofs.Order.Choices.{clash}
 use Rattle.lock.proofs.Order.Tickets.{Tickets}
 use Rattle.lock.proofs.Order.Calls.{sound-plain}
-use Rattle.lock.proofs.Order.Writes.{by-same, both-start, both-own, both-near}
+use Rattle.lock.proofs.Order.Writes.{both-start, both-own, both-near}
 use Rattle.lock.proofs.Order.Stages.{fencing, stageAt}
 use Rattle.lock.proofs.Order.Roles.{rel, lag, fences, isOpen, isLeft, wait-open, wait-stays, fences-kind, taking-lag, plain-fencing}
 use Rattle.lock.proofs.Order.Statement.{Ghost, upd, upd-same, upd-other, upd-back, Rel, Lag, Fenced, Fit, FitRow, Holds}
@@ -23,6 +23,7 @@ use Rattle.lock.proofs.Order.Carry.{refenced, refence-books, fenced-sam
 use Rattle.lock.proofs.Order.Near.{duty-as, Heir, heir-waits}
 use Rattle.lock.proofs.Order.Build.{both-holds}
 use Rattle.lock.proofs.Order.Quiet.{mine}
+use Rattle.lock.specs.Acts as Acts
 
 module _ (s : LockState) (g : Tickets) (p : ℕ) (v : Holds s g) (room : p < length (s .rows)) (e : stageAt ((row s p) .place) ≡ fencing) where
   abbrev R : Row

@@ -1,7 +1,7 @@
 -- Places 17 and 19: the lock is handed to the heir, or parked on it. Both serve the heir: it has the lock from then on.
 use Prim.Native.Nat.{ℕ, suc, _<_}
 use mathlib.Core.Path.{_≡_, refl, sym, subst, _∙_}
-use mathlib.Core.Bool.{true, false}
+use mathlib.Core.Bool.{true, false, cond}
 use mathlib.Core.Logic.{_≢_}
 use native.Mathlib.Omega.{arith}
 use lib.Dec.{eqb}
@@ -9,14 +9,13 @@ use lib.ListN.{length}
 use borrow.Author.Tests.{eqb-true, ne-eqb}
 use Rattle.lock.specs.declared.Row.{Row}
 use Rattle.lock.specs.declared.LockState.{LockState}
-use Rattle.lock.specs.Choice.{pick}
+use Rattle.choice.proofs.Tests.{clash, by-test}
+use Rattle.choice.proofs.Numbers.{by-same}
 use Rattle.lock.specs.State.{none, isNone, isPlain, isDrawn, Released, Locked, Preempted, RP, withLocked, withPlace, withNx, row, putRow, putLocked, to, putNx}
 use Rattle.lock.specs.Sound.{sound}
-use Rattle.lock.specs.Acts as Acts
-use Rattle.lock.proofs.Order.Choices.{clash, by-test}
 use Rattle.lock.proofs.Order.Tickets.{Tickets}
 use Rattle.lock.proofs.Order.Calls.{sound-plain}
-use Rattle.lock.proofs.Order.Writes.{by-same, own-start, own-put, both-start, both-own, both-near}
+use Rattle.lock.proofs.Order.Writes.{own-start, own-put, both-start, both-own, both-near}
 use Rattle.lock.proofs.Order.Stages.{handing, fencing, parking, stageAt}
 use Rattle.lock.proofs.Order.Roles.{wait, tok, role, settled, isLifting, preempted-tok, preempted-settled, wait-tok, plain-wait}
 use Rattle.lock.proofs.Order.Statement.{Ghost, upd, upd-same, upd-other, Books, Tok, Rel, Fencing, Fit, Holds}
@@ -24,6 +23,7 @@ use Rattle.lock.proofs.Order.Carry.{passed, refenced, refence-books, qu
 use Rattle.lock.proofs.Order.Near.{same-join, there-some, heir-waits}
 use Rattle.lock.proofs.Order.Build.{both-holds, quiet, free-fit, relock}
 use Rattle.lock.proofs.Order.Quiet.{ordered-drawn, mine, go}
+use Rattle.lock.specs.Acts as Acts
 
 module _ (s : LockState) (g : Tickets) (p : ℕ) (v : Holds s g) (room : p < length (s .rows)) where
   abbrev R : Row
@@ -111,7 +111,7 @@ module _ (s : LockState) (g : Tickets) (p : ℕ) (v : Holds s g) (room : p < len
       (λ q a b.
       pass-fit g G (G .gone) (suc (G .gone)) (G .linked) (G .releaser) (omega arith) (λ i k. k)
       (serve-asks d q ((row s q) .next)
-      (pick (isLifting (stageAt ((row s q) .place))) ((row s q) .nx) ((row s q) .succ)) a b)
+      (cond (isLifting (stageAt ((row s q) .place))) ((row s q) .nx) ((row s q) .succ)) a b)
       (v .fits q))
 
   pub hand-holds : sound s ≡ true → stageAt (R .place) ≡ handing → Holds (Acts.hand s p) g
@@ -170,7 +170,7 @@ module _ (s : LockState) (g : Tickets) (p : ℕ) (v : Holds s g) (room : p < len
         settles = preempted-settled st two;
         duty =
             rw (preempted-tok st x two)
-            (refence g H (G .fencer) K (G .peeked) tok y (Y .next) (Y .succ) (pick (isLifting st) (Y .nx) (Y .succ))
+            (refence g H (G .fencer) K (G .peeked) tok y (Y .next) (Y .succ) (cond (isLifting st) (Y .nx) (Y .succ))
             (λ k. absurd (k .away (z .queued .low) (z .queued .high) (z .queued .mine))) (serve-heir d));
         joins = fy .joins;
         blank = fy .blank;
@@ -187,7 +187,7 @@ module _ (s : LockState) (g : Tickets) (p : ℕ) (v : Holds s g) (room : p < len
       (fenced-same H (G .fencer) K (G .peeked) q (r .locked) (r .next) (r .guard) refl (same q b) refl
       ((v .fits q) .fenced)) ((v .fits q) .manned)
       (pass-fit g G (G .gone) (suc (G .gone)) (G .linked) (G .releaser) (omega arith) (λ i k. k)
-      (serve-asks d q (r .next) (pick (isLifting (stageAt (r .place))) (r .nx) (r .succ)) a b) (v .fits q)))
+      (serve-asks d q (r .next) (cond (isLifting (stageAt (r .place))) (r .nx) (r .succ)) a b) (v .fits q)))
     where
       more : (q : ℕ) → G .lagged q ≡ true → upd (G .lagged) y true q ≡ true
       more =

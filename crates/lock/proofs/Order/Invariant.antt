@@ -5,20 +5,19 @@
 --     inv-entry        who enters has the earliest latest join of all in the queue
 use Prim.Native.Nat.{ℕ, _<_, _≤_}
 use mathlib.Core.Path.{_≡_, refl, sym, ap, _∙_}
-use mathlib.Core.Bool.{Bool, true, false, not}
+use mathlib.Core.Bool.{Bool, true, false, not, cond}
 use mathlib.Core.Logic.{_≢_}
 use native.Mathlib.Omega.{arith}
 use lib.Dec.{eqb}
 use lib.ListN.{length}
 use borrow.Author.Tests.{eqb-true}
 use Rattle.lock.specs.declared.LockState.{LockState}
-use Rattle.lock.specs.Choice.{pick}
+use Rattle.choice.proofs.Tests.{clash, and-right}
 use Rattle.lock.specs.State.{processors, none, isNone, freshState, row, withFlag, putRow, putFlag}
 use Rattle.lock.specs.Sound.{sound}
 use Rattle.lock.specs.Table.{Place, placeAt, act, stepped, rest, gate, clear, swap, arm, link, claim, spin, settle, inside, poll, service, back, regain, look, close, await, hand, fence, park, peek, take, lift, nowhere}
 use Rattle.lock.specs.Event.{raised}
 use Rattle.lock.specs.Run.{Call, after, enters, stepsOf}
-use Rattle.lock.proofs.Order.Choices.{clash, and-right}
 use Rattle.lock.proofs.Order.Tickets.{Tickets, noTickets, ticketed, member, isMember, isOrdered}
 use Rattle.lock.proofs.Order.Calls.{stepTickets, by-call, sound-bounds}
 use Rattle.lock.proofs.Order.Writes.{own-start, own-put, fresh-row}
@@ -130,16 +129,16 @@ inv-after s g c v =
     room fit below = let h : length (s .rows) ≡ 16 = v .rooms in let b : s .n ≤ 16 = sound-bounds s fit in omega arith
 
 -- membership by place and locked, as a role
-spinner : (b : Bool) → isQueued (pick b tok wait) ≡ true
+spinner : (b : Bool) → isQueued (cond b tok wait) ≡ true
 spinner true = refl
 spinner false = refl
 
-server : (b c : Bool) → not b ≡ true → isQueued (pick b out (pick c tok wait)) ≡ true
+server : (b c : Bool) → not b ≡ true → isQueued (cond b out (cond c tok wait)) ≡ true
 server true c e = e
 server false true e = refl
 server false false e = refl
 
-regainer : (b : Bool) → not b ≡ true → isQueued (pick b out tok) ≡ true
+regainer : (b : Bool) → not b ≡ true → isQueued (cond b out tok) ≡ true
 regainer true e = e
 regainer false e = refl
 
@@ -187,7 +186,7 @@ unfolding isMember
 member-queued s g q v m =
     let r = row s q in
     in-queue (role (stageAt (r .place)) (r .locked) (isNone (r .nx))) q (r .next) (r .succ)
-    (pick (isLifting (stageAt (r .place))) (r .nx) (r .succ))
+    (cond (isLifting (stageAt (r .place))) (r .nx) (r .succ))
     (member-role (placeAt (r .place)) (r .locked) (isNone (r .nx)) m)
     ((v .fits q) .duty)
 

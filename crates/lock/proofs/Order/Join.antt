@@ -4,7 +4,7 @@
 --     swap-holds       the act
 use Prim.Native.Nat.{ℕ, suc, _<_, _≤_}
 use mathlib.Core.Path.{_≡_, refl, sym, ap, _∙_}
-use mathlib.Core.Bool.{Bool, true, false}
+use mathlib.Core.Bool.{Bool, true, false, cond}
 use mathlib.Core.Logic.{_≢_}
 use native.Mathlib.Omega.{arith}
 use lib.Dec.{eqb}
@@ -12,18 +12,18 @@ use lib.ListN.{length}
 use borrow.Author.Tests.{eqb-true, eqb-false}
 use Rattle.lock.specs.declared.Row.{Row}
 use Rattle.lock.specs.declared.LockState.{LockState}
-use Rattle.lock.specs.Choice.{pick}
+use Rattle.choice.proofs.Numbers.{by-same}
 use Rattle.lock.specs.State.{none, isNone, withPlace, withPred, row, putRow, putTail, to, putPred}
-use Rattle.lock.specs.Acts as Acts
 use Rattle.lock.proofs.Order.Tickets.{Tickets}
 use Rattle.lock.proofs.Order.Calls.{joined}
-use Rattle.lock.proofs.Order.Writes.{own-start, own-put, own-tail, by-same}
+use Rattle.lock.proofs.Order.Writes.{own-start, own-put, own-tail}
 use Rattle.lock.proofs.Order.Stages.{Stage, swapping, stageAt}
 use Rattle.lock.proofs.Order.Roles.{Role, out, raw, wait, tok, rel, lag, role, joining, isLifting}
 use Rattle.lock.proofs.Order.Statement.{Ghost, upd, upd-same, upd-other, Books, Queued, Away, Duty, given-map, Fit, Holds}
 use Rattle.lock.proofs.Order.Carry.{moved, queued-map}
 use Rattle.lock.proofs.Order.Build.{own-holds, free-fit}
 use Rattle.lock.proofs.Order.Quiet.{mine}
+use Rattle.lock.specs.Acts as Acts
 
 -- the ghost after p's join, u served
 abbrev entered : Tickets → Ghost → (p u : ℕ) → Ghost
@@ -110,7 +110,7 @@ module _ (g : Tickets) (G : Ghost) (p u : ℕ) (past : (q : ℕ) → g .latest q
         record {
           small = f .small;
           settles = f .settles;
-          duty = join-duty (role st l (isNone nx)) next succ (pick (isLifting st) nx succ) (f .duty);
+          duty = join-duty (role st l (isNone nx)) next succ (cond (isLifting st) nx succ) (f .duty);
           joins =
               given-map (joining st)
               (λ b j i x y.
@@ -200,7 +200,7 @@ module _ (s : LockState) (g : Tickets) (p : ℕ) (v : Holds s g) (room : p < len
       me = upd-same (g .latest) p (g .count)
 
       by-tail :
-          (b : Bool) → isNone (s .tail) ≡ b → Holds (to (putTail (putPred s p (s .tail)) p) p (pick b 9 4)) (joined g p)
+          (b : Bool) → isNone (s .tail) ≡ b → Holds (to (putTail (putPred s p (s .tail)) p) p (cond b 9 4)) (joined g p)
       by-tail true t =
           let u = suc (g .count) in
           let empty : G .gone ≡ g .count = v .books .empty (eqb-true (s .tail) none t) in

@@ -9,9 +9,8 @@ use lib.ListN.{length}
 use borrow.Author.Tests.{eqb-true, eqb-false}
 use Rattle.lock.specs.declared.Row.{Row}
 use Rattle.lock.specs.declared.LockState.{LockState}
+use Rattle.choice.proofs.Tests.{clash, by-test}
 use Rattle.lock.specs.State.{none, isNone, withPlace, withSucc, row, putRow, putTail, to, putSucc}
-use Rattle.lock.specs.Acts as Acts
-use Rattle.lock.proofs.Order.Choices.{clash, by-test}
 use Rattle.lock.proofs.Order.Tickets.{Tickets}
 use Rattle.lock.proofs.Order.Writes.{own-start, own-put, own-tail}
 use Rattle.lock.proofs.Order.Stages.{holding, stageAt}
@@ -20,6 +19,7 @@ use Rattle.lock.proofs.Order.Carry.{passed, pass-fit, books-pop}
 use Rattle.lock.proofs.Order.Near.{before, served-first, pop-asks, there-some}
 use Rattle.lock.proofs.Order.Build.{own-holds, free-fit}
 use Rattle.lock.proofs.Order.Quiet.{mine, go}
+use Rattle.lock.specs.Acts as Acts
 
 module _ (s : LockState) (g : Tickets) (p : ℕ) (v : Holds s g) (room : p < length (s .rows)) where
   abbrev R : Row

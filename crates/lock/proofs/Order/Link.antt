@@ -2,7 +2,7 @@
 -- the row before it: that one goes from the front, and p is served in its place.
 use Prim.Native.Nat.{ℕ, suc, _<_, _≤_}
 use mathlib.Core.Path.{_≡_, refl, sym, ap, subst, _∙_}
-use mathlib.Core.Bool.{Bool, true, false}
+use mathlib.Core.Bool.{Bool, true, false, cond}
 use mathlib.Core.Logic.{_≢_}
 use native.Mathlib.Omega.{arith}
 use lib.Dec.{eqb}
@@ -10,12 +10,11 @@ use lib.ListN.{length}
 use borrow.Author.Tests.{eqb-true, not-true}
 use Rattle.lock.specs.declared.Row.{Row}
 use Rattle.lock.specs.declared.LockState.{LockState}
-use Rattle.lock.specs.Choice.{pick}
+use Rattle.choice.proofs.Tests.{clash, by-test}
+use Rattle.choice.proofs.Numbers.{by-same}
 use Rattle.lock.specs.State.{isNone, isPlain, RP, withNext, withLocked, withPlace, row, putRow, putNext, putLocked, to}
-use Rattle.lock.specs.Acts as Acts
-use Rattle.lock.proofs.Order.Choices.{clash, by-test}
 use Rattle.lock.proofs.Order.Tickets.{Tickets}
-use Rattle.lock.proofs.Order.Writes.{by-same, both-start, both-own, both-near}
+use Rattle.lock.proofs.Order.Writes.{both-start, both-own, both-near}
 use Rattle.lock.proofs.Order.Stages.{linking, claiming, stageAt}
 use Rattle.lock.proofs.Order.Roles.{Role, out, raw, wait, tok, rel, lag, joining, isSwapping, isQueued, isLifting, parked-out, parked-settled, queued-joined}
 use Rattle.lock.proofs.Order.Statement.{Ghost, upd, upd-same, upd-other, Queued, Raw, Wait, Tok, Duty, given-map, Fenced, Fit, FitRow, Holds}
@@ -23,6 +22,7 @@ use Rattle.lock.proofs.Order.Carry.{passed, queued-map, Asks, pass, pas
 use Rattle.lock.proofs.Order.Near.{same-join, before, roleRow, served-first, maker, queued-there, parked-tok-at}
 use Rattle.lock.proofs.Order.Build.{both-holds, free-fit, relock}
 use Rattle.lock.proofs.Order.Quiet.{mine, go}
+use Rattle.lock.specs.Acts as Acts
 
 -- another next, with what is to be said of it
 chain-duty :
@@ -133,7 +133,7 @@ module _ (s : LockState) (g : Tickets) (p : ℕ) (v : Holds s g) (room : p < len
           let r = row s y in
           let st = stageAt (r .place) in
           let h = v .fits y in
-          let heir = pick (isLifting st) (r .nx) (r .succ) in
+          let heir = cond (isLifting st) (r .nx) (r .succ) in
           record {
             small = h .small;
             settles = h .settles;
@@ -182,13 +182,13 @@ module _ (s : LockState) (g : Tickets) (p : ℕ) (v : Holds s g) (room : p < len
           (λ q a b.
           pass-fit g G (G .gone) (G .served) (H .linked) (G .releaser) (omega arith) linked-more
           (link-asks d q ((row s q) .next)
-          (pick (isLifting (stageAt ((row s q) .place))) ((row s q) .nx) ((row s q) .succ)) a)
+          (cond (isLifting (stageAt ((row s q) .place))) ((row s q) .nx) ((row s q) .succ)) a)
           (v .fits q))
 
       fenced : G .fencer p ≢ 0 → Fenced (G .lagged p) (G .peeked p) 1 (R .next) (R .guard)
       fenced z = clash (f .shut ((f .fenced z) .set)) refl
 
-      by-edition : (b : Bool) → Holds (to (putNext s y p) p (pick b 7 6)) g
+      by-edition : (b : Bool) → Holds (to (putNext s y p) p (cond b 7 6)) g
       by-edition true = own 7 (free-fit refl refl refl waiting fenced (f .manned) (f .fencing))
       by-edition false =
           own 6

@@ -10,7 +10,7 @@
 --     parked-tok-at    a row with R_P has the lock, at the front
 use Prim.Native.Nat.{ℕ, zero, suc, _<_, _≤_}
 use mathlib.Core.Path.{_≡_, refl, sym, ap, subst, _∙_}
-use mathlib.Core.Bool.{true}
+use mathlib.Core.Bool.{true, cond}
 use mathlib.Core.Logic.{_≢_}
 use native.Mathlib.Omega.{arith}
 use lib.Dec.{eqb}
@@ -18,9 +18,8 @@ use lib.ListN.{length}
 use borrow.Author.Tests.{eqb-true}
 use Rattle.lock.specs.declared.Row.{Row}
 use Rattle.lock.specs.declared.LockState.{LockState}
-use Rattle.lock.specs.Choice.{pick}
+use Rattle.choice.proofs.Tests.{clash}
 use Rattle.lock.specs.State.{none, isNone, row}
-use Rattle.lock.proofs.Order.Choices.{clash}
 use Rattle.lock.proofs.Order.Tickets.{Tickets}
 use Rattle.lock.proofs.Order.Writes.{row-there}
 use Rattle.lock.proofs.Order.Stages.{stageAt}
@@ -57,11 +56,11 @@ module _ (s : LockState) (g : Tickets) (v : Holds s g) where
   pub duty-as :
       (q : ℕ) {ρ : Role} → roleRow (row s q) ≡ ρ
       → Duty ρ g (v .ghost) q ((row s q) .next) ((row s q) .succ)
-      (pick (isLifting (stageAt ((row s q) .place))) ((row s q) .nx) ((row s q) .succ))
+      (cond (isLifting (stageAt ((row s q) .place))) ((row s q) .nx) ((row s q) .succ))
   duty-as q e =
       let r = row s q in
       subst (λ (ρ : Role). Duty ρ g (v .ghost) q (r .next) (r .succ)
-      (pick (isLifting (stageAt (r .place))) (r .nx) (r .succ))) e
+      (cond (isLifting (stageAt (r .place))) (r .nx) (r .succ))) e
       ((v .fits q) .duty)
 
   -- who is served is at the front
@@ -110,7 +109,7 @@ module _ (s : LockState) (g : Tickets) (v : Holds s g) where
       let k : g .latest y ≡ i = ap (g .latest) e ∙ v .books .known i a b in
       let r = row s y in
       let w =
-      owner (roleRow r) y (r .next) (r .succ) (pick (isLifting (stageAt (r .place))) (r .nx) (r .succ)) (rw k a)
+      owner (roleRow r) y (r .next) (r .succ) (cond (isLifting (stageAt (r .place))) (r .nx) (r .succ)) (rw k a)
       (rw k b)
       (ap (G .who) k ∙ sym e) ((v .fits y) .duty) in
       (k, w .0, w .1)
@@ -128,7 +127,7 @@ module _ (s : LockState) (g : Tickets) (v : Holds s g) where
       let w = maker y (G .gone) (d .front .made) (omega arith) (d .front .below) in
       let r = row s y in
       let z =
-      waits (roleRow r) y (r .next) (r .succ) (pick (isLifting (stageAt (r .place))) (r .nx) (r .succ)) (w .2) (w .0)
+      waits (roleRow r) y (r .next) (r .succ) (cond (isLifting (stageAt (r .place))) (r .nx) (r .succ)) (w .2) (w .0)
       (d .front .done)
       (d .handing) ((v .fits y) .duty) in
       record {
@@ -152,7 +151,7 @@ module _ (s : LockState) (g : Tickets) (v : Holds s g) where
       = subst (λ (z : ℕ). Fit (s .edition) g G y st z (r .next) (r .pred) (r .succ) (r .nx) (r .guard))
       (eqb-true (r .locked) 3 h) (v .fits y) in
       let ρ : role st 3 (isNone (r .nx)) ≡ tok = parked-tok st (isNone (r .nx)) (f .settles) in (
-        subst (λ (z : Role). Duty z g G y (r .next) (r .succ) (pick (isLifting st) (r .nx) (r .succ))) ρ (f .duty),
+        subst (λ (z : Role). Duty z g G y (r .next) (r .succ) (cond (isLifting st) (r .nx) (r .succ))) ρ (f .duty),
         f .settles,
         row-there s y (λ e. clash (subst (λ (r : Row). eqb (r .locked) 3 ≡ true) e h) refl),
       )

@@ -2,23 +2,22 @@
 -- it was or follows from the test that the step made.
 use Prim.Native.Nat.{ℕ, suc, _<_}
 use mathlib.Core.Path.{_≡_, refl, subst}
-use mathlib.Core.Bool.{Bool, true, false, _&&_, _||_}
+use mathlib.Core.Bool.{Bool, true, false, _&&_, _||_, cond}
 use mathlib.Core.Logic.{_≢_}
 use lib.Dec.{eqb}
 use lib.ListN.{length}
 use borrow.Author.Tests.{eqb-true}
 use Rattle.lock.specs.declared.Row.{Row}
 use Rattle.lock.specs.declared.LockState.{LockState}
-use Rattle.lock.specs.Choice.{pick}
+use Rattle.choice.proofs.Tests.{clash, and-right, left-of, by-test}
 use Rattle.lock.specs.State.{none, isNone, isPlain, isDrawn, isGuarded, withNext, withLocked, withFlag, withPlace, withNx, row, putRow, putNext, putLocked, putFlag, to, putNx}
-use Rattle.lock.specs.Acts as Acts
-use Rattle.lock.proofs.Order.Choices.{clash, and-right, left-of, by-test}
 use Rattle.lock.proofs.Order.Tickets.{Tickets, isOrdered}
 use Rattle.lock.proofs.Order.Writes.{own-start, own-put}
 use Rattle.lock.proofs.Order.Stages.{Stage, resting, clearing, arming, spinning, settling, holding, serving, regaining, fencing, peeking, stageAt}
 use Rattle.lock.proofs.Order.Roles.{Role, out, wait, tok}
 use Rattle.lock.proofs.Order.Statement.{Ghost, Away, Lag, Duty, Fencing, Fit, Holds}
 use Rattle.lock.proofs.Order.Build.{quiet, free-fit, relock}
+use Rattle.lock.specs.Acts as Acts
 
 -- of the ordered editions, the one without a gate is the plain one, and none is the drawn one
 ordered-plain : (e : ℕ) → isOrdered e ≡ true → isGuarded e ≡ false → e ≡ 0
@@ -37,7 +36,7 @@ clear-guard true m e = absurd (m refl .0 e)
 clear-guard false m e = refl
 
 -- with the locked of neither 1 nor 2 the service's roles are the regain's
-back-role : (o x : Bool) → o || x ≡ true → pick o out (pick x tok wait) ≡ pick o out tok
+back-role : (o x : Bool) → o || x ≡ true → cond o out (cond x tok wait) ≡ cond o out tok
 back-role true x e = refl
 back-role false true e = refl
 back-role false false e = clash e refl
@@ -96,7 +95,7 @@ module _ (s : LockState) (g : Tickets) (p : ℕ) (v : Holds s g) (room : p < len
       f : Fit (s .edition) g G p (stageAt (R .place)) (R .locked) (R .next) (R .pred) (R .succ) (R .nx) (R .guard)
       f = v .fits p
 
-      by-gate : (b : Bool) → isGuarded (s .edition) ≡ b → Holds (to s p (pick b 1 2)) g
+      by-gate : (b : Bool) → isGuarded (s .edition) ≡ b → Holds (to s p (cond b 1 2)) g
       by-gate true h = go 1 (free-fit refl (f .small) free away (f .fenced) (f .manned) idle)
       by-gate false h = go 2 (open-fit
           (clear-guard (R .guard) (f .manned) (ordered-plain (s .edition) (v .ordered) h)) free away idle)

@@ -7,17 +7,17 @@
 --     table                a test of stage, locked and nx that computes to true at each holds of any
 use Prim.Native.Nat.{ℕ, suc, _≤_}
 use mathlib.Core.Path.{_≡_, refl, sym, ap, subst, _∙_}
-use mathlib.Core.Bool.{Bool, true, false, not, _&&_, _||_, or-true}
+use mathlib.Core.Bool.{Bool, true, false, not, _&&_, _||_, or-true, cond}
 use mathlib.Core.List.{[], _∷_}
 use mathlib.Core.Logic.{_⊎_, inl, inr}
 use native.Mathlib.Omega.{arith}
 use lib.ListN.{getD}
 use lib.Dec.{eqb, leb, ltb}
 use borrow.Author.Tests.{eqb-true, leb-true, ltb-true, ltb-false, eq-eqb}
-use Rattle.lock.specs.Choice.{pick, every}
+use Rattle.choice.specs.Every.{every}
+use Rattle.choice.proofs.Tests.{and-left, and-right, implies, implied}
+use Rattle.choice.proofs.Numbers.{every-at}
 use Rattle.lock.specs.Sound.{hasPlace}
-use Rattle.lock.proofs.Order.Choices.{and-left, and-right, implies, implied}
-use Rattle.lock.proofs.Order.Calls.{every-at}
 use Rattle.lock.proofs.Order.Stages.{Stage, resting, clearing, swapping, arming, linking, claiming, spinning, settling, holding, serving, regaining, handing, fencing, parking, peeking, taking, lifting, stageAt, stage-far, everyStage, stage-by}
 
 pub data Role : Type 0 where
@@ -29,18 +29,18 @@ role clearing l x = out
 role swapping l x = out
 role arming l x = raw
 role linking l x = raw
-role claiming l x = pick (eqb l 0) tok wait
-role spinning l x = pick (eqb l 0) tok wait
+role claiming l x = cond (eqb l 0) tok wait
+role spinning l x = cond (eqb l 0) tok wait
 role settling l x = tok
 role holding l x = tok
-role serving l x = pick (eqb l 0) out (pick (eqb l 3) tok wait)
-role regaining l x = pick (eqb l 0) out tok
+role serving l x = cond (eqb l 0) out (cond (eqb l 3) tok wait)
+role regaining l x = cond (eqb l 0) out tok
 role handing l x = rel
 role fencing l x = rel
 role parking l x = rel
 role peeking l x = lag
 role taking l x = lag
-role lifting l x = pick x lag rel
+role lifting l x = cond x lag rel
 
 abbrev pub settled : Stage → ℕ → Bool
 settled resting l = eqb l 0
@@ -153,8 +153,8 @@ pub table :
     (f : Stage → ℕ → Bool → Bool) → everyStage (λ st. fourTimes (f st)) ≡ true → (st : Stage) (l : ℕ) (x : Bool)
     → leb l 3 ≡ true
     → f st l x ≡ true
-table f e st l x h = one x (every-at 4 (λ l. f st l true && f st l false) l
-    (stage-by (λ st. fourTimes (f st)) e st) small)
+table f e st l x h = one x (every-at 4 (λ l. f st l true && f st l false)
+    (stage-by (λ st. fourTimes (f st)) e st) l small)
   where
     small : suc l ≤ 4
     small = let b : l ≤ 3 = leb-true l 3 h in omega arith
@@ -258,7 +258,7 @@ placed-where :
     (f : ℕ → Stage → Bool) (k : ℕ) (b : Bool) → ltb k 23 ≡ b → every 23 (λ k. f k (stageAt k)) ≡ true
     → (b ≡ false → f k resting ≡ true)
     → f k (stageAt k) ≡ true
-placed-where f k true h e far = every-at 23 (λ k. f k (stageAt k)) k e (ltb-true k 23 h)
+placed-where f k true h e far = every-at 23 (λ k. f k (stageAt k)) e k (ltb-true k 23 h)
 placed-where f k false h e far =
     subst (λ (z : Stage). f k z ≡ true) (sym (stage-far k (ltb-false k 23 h))) (far refl)
 

@@ -9,10 +9,9 @@ use mathlib.Core.Bool.{Bool, true}
 use mathlib.Core.List.{[], _∷_}
 use lib.ListN.{getD, List·getD-eq-default}
 use lib.Dec.{lit<}
-use Rattle.lock.specs.Choice.{every}
+use Rattle.choice.specs.Every.{every}
+use Rattle.choice.proofs.Numbers.{every-at}
 use Rattle.lock.specs.Table.{Place, placeAt, rest, gate, clear, swap, arm, link, claim, spin, settle, inside, poll, service, back, regain, look, close, await, hand, fence, park, peek, take, lift, nowhere}
-use Rattle.lock.proofs.Order.Calls.{every-at}
-pub use Rattle.lock.proofs.Order.Choices.{implies, implied}
 
 pub data Stage : Type 0 where
   resting clearing swapping arming linking claiming spinning settling holding serving regaining handing fencing parking peeking taking lifting : Stage
@@ -66,20 +65,20 @@ abbrev pub everyStage : (Stage → Bool) → Bool
 everyStage f = every 17 (λ i. f (stages i))
 
 pub stage-by : (f : Stage → Bool) → everyStage f ≡ true → (st : Stage) → f st ≡ true
-stage-by f e resting = every-at 17 (λ i. f (stages i)) 0 e (lit< tt)
-stage-by f e clearing = every-at 17 (λ i. f (stages i)) 1 e (lit< tt)
-stage-by f e swapping = every-at 17 (λ i. f (stages i)) 2 e (lit< tt)
-stage-by f e arming = every-at 17 (λ i. f (stages i)) 3 e (lit< tt)
-stage-by f e linking = every-at 17 (λ i. f (stages i)) 4 e (lit< tt)
-stage-by f e claiming = every-at 17 (λ i. f (stages i)) 5 e (lit< tt)
-stage-by f e spinning = every-at 17 (λ i. f (stages i)) 6 e (lit< tt)
-stage-by f e settling = every-at 17 (λ i. f (stages i)) 7 e (lit< tt)
-stage-by f e holding = every-at 17 (λ i. f (stages i)) 8 e (lit< tt)
-stage-by f e serving = every-at 17 (λ i. f (stages i)) 9 e (lit< tt)
-stage-by f e regaining = every-at 17 (λ i. f (stages i)) 10 e (lit< tt)
-stage-by f e handing = every-at 17 (λ i. f (stages i)) 11 e (lit< tt)
-stage-by f e fencing = every-at 17 (λ i. f (stages i)) 12 e (lit< tt)
-stage-by f e parking = every-at 17 (λ i. f (stages i)) 13 e (lit< tt)
-stage-by f e peeking = every-at 17 (λ i. f (stages i)) 14 e (lit< tt)
-stage-by f e taking = every-at 17 (λ i. f (stages i)) 15 e (lit< tt)
-stage-by f e lifting = every-at 17 (λ i. f (stages i)) 16 e (lit< tt)
+stage-by f e resting = every-at 17 (λ i. f (stages i)) e 0 (lit< tt)
+stage-by f e clearing = every-at 17 (λ i. f (stages i)) e 1 (lit< tt)
+stage-by f e swapping = every-at 17 (λ i. f (stages i)) e 2 (lit< tt)
+stage-by f e arming = every-at 17 (λ i. f (stages i)) e 3 (lit< tt)
+stage-by f e linking = every-at 17 (λ i. f (stages i)) e 4 (lit< tt)
+stage-by f e claiming = every-at 17 (λ i. f (stages i)) e 5 (lit< tt)
+stage-by f e spinning = every-at 17 (λ i. f (stages i)) e 6 (lit< tt)
+stage-by f e settling = every-at 17 (λ i. f (stages i)) e 7 (lit< tt)
+stage-by f e holding = every-at 17 (λ i. f (stages i)) e 8 (lit< tt)
+stage-by f e serving = every-at 17 (λ i. f (stages i)) e 9 (lit< tt)
+stage-by f e regaining = every-at 17 (λ i. f (stages i)) e 10 (lit< tt)
+stage-by f e handing = every-at 17 (λ i. f (stages i)) e 11 (lit< tt)
+stage-by f e fencing = every-at 17 (λ i. f (stages i)) e 12 (lit< tt)
+stage-by f e parking = every-at 17 (λ i. f (stages i)) e 13 (lit< tt)
+stage-by f e peeking = every-at 17 (λ i. f (stages i)) e 14 (lit< tt)
+stage-by f e taking = every-at 17 (λ i. f (stages i)) e 15 (lit< tt)
+stage-by f e lifting = every-at 17 (λ i. f (stages i)) e 16 (lit< tt)

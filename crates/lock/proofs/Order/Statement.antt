@@ -9,14 +9,13 @@
 --     Holds            the invariant of a state
 use Prim.Native.Nat.{ℕ, suc, _<_, _≤_}
 use mathlib.Core.Path.{_≡_, refl, sym, ap, _∙_}
-use mathlib.Core.Bool.{Bool, true, false}
+use mathlib.Core.Bool.{Bool, true, false, cond}
 use mathlib.Core.Logic.{_≢_}
 use lib.Dec.{eqb, leb}
 use lib.ListN.{length}
 use borrow.Author.Tests.{eqb-true, eqb-false, eq-eqb, ne-eqb}
 use Rattle.lock.specs.declared.Row.{Row}
 use Rattle.lock.specs.declared.LockState.{LockState}
-use Rattle.lock.specs.Choice.{pick}
 use Rattle.lock.specs.State.{processors, none, isNone, row}
 use Rattle.lock.proofs.Order.Tickets.{Tickets, isOrdered}
 use Rattle.lock.proofs.Order.Stages.{Stage, stageAt}
@@ -42,7 +41,7 @@ pub record Ghost : Type 0 where
 
 -- a function changed at one number
 abbrev pub upd : {A : Type 0} → (ℕ → A) → ℕ → A → ℕ → A
-upd f y v q = pick (eqb q y) v (f q)
+upd f y v q = cond (eqb q y) v (f q)
 
 pub upd-same : {A : Type 0} (f : ℕ → A) (y : ℕ) (v : A) → upd f y v y ≡ v
 upd-same f y v = rw (eq-eqb y y refl)
@@ -153,7 +152,7 @@ pub record Fit (e : ℕ) (g : Tickets) (G : Ghost) (q : ℕ) (st : Stage) (l nex
   pub small : leb l 3 ≡ true
   pub settles : settled st l ≡ true
   -- the queue, by role
-  pub duty : Duty (role st l (isNone nx)) g G q next succ (pick (isLifting st) nx succ)
+  pub duty : Duty (role st l (isNone nx)) g G q next succ (cond (isLifting st) nx succ)
   -- 4 to 6: the pred made the join before
   pub joins : given (joining st) ((i : ℕ) → suc i ≡ g .latest q → G .gone ≤ i → pred ≡ G .who i)
   -- 3: the next is none

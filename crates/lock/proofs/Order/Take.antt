@@ -2,7 +2,7 @@
 -- is still parked there and goes on to hand it to the next, and lifts the fence.
 use Prim.Native.Nat.{ℕ, suc, _<_}
 use mathlib.Core.Path.{_≡_, refl, sym, ap, subst, _∙_}
-use mathlib.Core.Bool.{Bool, true, false}
+use mathlib.Core.Bool.{Bool, true, false, cond}
 use mathlib.Core.Logic.{_≢_}
 use native.Mathlib.Omega.{arith}
 use lib.Dec.{eqb}
@@ -10,13 +10,12 @@ use lib.ListN.{length}
 use borrow.Author.Tests.{eqb-false, ne-eqb}
 use Rattle.lock.specs.declared.Row.{Row}
 use Rattle.lock.specs.declared.LockState.{LockState}
-use Rattle.lock.specs.Choice.{pick}
+use Rattle.choice.proofs.Tests.{clash, by-test}
+use Rattle.choice.proofs.Numbers.{by-same}
 use Rattle.lock.specs.State.{none, isNone, isDrawn, Released, RP, withLocked, withGuard, withPlace, withSucc, withNx, row, putRow, putLocked, putGuard, to, putSucc, putNx}
-use Rattle.lock.specs.Acts as Acts
-use Rattle.lock.proofs.Order.Choices.{clash, by-test}
 use Rattle.lock.proofs.Rows.{row-put-other}
 use Rattle.lock.proofs.Order.Tickets.{Tickets}
-use Rattle.lock.proofs.Order.Writes.{by-same, own-start, own-put, Both, both-start, both-own, both-near, row-there}
+use Rattle.lock.proofs.Order.Writes.{own-start, own-put, Both, both-start, both-own, both-near, row-there}
 use Rattle.lock.proofs.Order.Stages.{peeking, taking, lifting, stageAt}
 use Rattle.lock.proofs.Order.Roles.{lag, joining, fences, isOpen, isLifting, parked-out, parked-settled, taking-lag}
 use Rattle.lock.proofs.Order.Statement.{Ghost, upd, upd-same, upd-other, upd-back, Books, Linked, Rel, Lag, given-map, Fencing, Fenced, Fit, FitRow, Holds}
@@ -24,6 +23,7 @@ use Rattle.lock.proofs.Order.Carry.{passed, refenced, refence-books, pa
 use Rattle.lock.proofs.Order.Near.{duty-as, served-first, pop-asks, parked-tok-at}
 use Rattle.lock.proofs.Order.Build.{own-holds, both-holds, free-fit, relock}
 use Rattle.lock.proofs.Order.Quiet.{ordered-drawn, mine, lag-on}
+use Rattle.lock.specs.Acts as Acts
 
 module _ (s : LockState) (g : Tickets) (p : ℕ) (v : Holds s g) (room : p < length (s .rows)) where
   abbrev R : Row
@@ -162,7 +162,7 @@ module _ (s : LockState) (g : Tickets) (p : ℕ) (v : Holds s g) (room : p < len
       pass-fit g G (suc (G .gone)) (G .served) (G .linked) p (omega arith) (λ i z. z)
       (pop-asks s g v y (Y .next) p (w .0) (λ q next k z. clash (ap (G .linked) z ∙ done) (k .unlinked)) q
       ((row s q) .next)
-      (pick (isLifting (stageAt ((row s q) .place))) ((row s q) .nx) ((row s q) .succ)) b)
+      (cond (isLifting (stageAt ((row s q) .place))) ((row s q) .nx) ((row s q) .succ)) b)
       (v .fits q))
 
   pub take-holds : stageAt (R .place) ≡ taking → Holds (Acts.take s p) g
@@ -213,7 +213,7 @@ module _ (s : LockState) (g : Tickets) (p : ℕ) (v : Holds s g) (room : p < len
   pub lift-holds : stageAt (R .place) ≡ lifting → Holds (Acts.lift s p) g
   unfolding Acts.lift Acts.onward to putSucc putGuard putRow
   lift-holds e =
-      subst (λ (r : Row). Holds (pick (isNone (r .nx)) (to t p 0) (to (putSucc t p (r .nx)) p 17)) g)
+      subst (λ (r : Row). Holds (cond (isNone (r .nx)) (to t p 0) (to (putSucc t p (r .nx)) p 17)) g)
       (sym (row-put-other s y (withGuard Y false) p apart))
       (by-test (λ t. Holds t g) (isNone (R .nx))
       (λ h.

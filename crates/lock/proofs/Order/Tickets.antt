@@ -1,10 +1,9 @@
 -- The ghost state of the order argument: joins are numbered, and each processor remembers the number of its latest join.
 -- Both are functions of the events so far. And membership: who stands in the queue, its front holder included.
 use Prim.Native.Nat.{ℕ, suc}
-use mathlib.Core.Bool.{Bool, true, false, not, _||_}
+use mathlib.Core.Bool.{Bool, true, false, not, _||_, cond}
 use lib.Dec.{eqb}
 use Rattle.lock.specs.declared.LockState.{LockState}
-use Rattle.lock.specs.Choice.{pick}
 use Rattle.lock.specs.State.{row, isPlain, isGuarded}
 use Rattle.lock.specs.Table.{Place, placeAt, rest, gate, clear, swap, arm, link, claim, spin, settle, inside, poll, service, back, regain, look, close, await, hand, fence, park, peek, take, lift, nowhere}
 use Rattle.lock.specs.Run.{Call, joins}
@@ -25,8 +24,8 @@ noTickets = record { count = 0; latest = λ p. 0 }
 -- a join takes the next number
 unfoldable pub ticketed : LockState → Tickets → Call → Tickets
 ticketed s g c =
-    pick (joins s c (c .processor))
-    (record { count = suc (g .count); latest = λ q. pick (eqb q (c .processor)) (g .count) (g .latest q) })
+    cond (joins s c (c .processor))
+    (record { count = suc (g .count); latest = λ q. cond (eqb q (c .processor)) (g .count) (g .latest q) })
     g
 
 -- in the queue, by place and locked: from arm to poll, from inside to await, and at 11 to 13 while locked is not Released

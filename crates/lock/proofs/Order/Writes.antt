@@ -18,6 +18,7 @@ use lib.Seq.{set-out}
 use borrow.Author.Tests.{ltb-true, ltb-false, eqb-true, eqb-false}
 use Rattle.lock.specs.declared.Row.{Row}
 use Rattle.lock.specs.declared.LockState.{LockState}
+use Rattle.choice.proofs.Numbers.{by-same}
 use Rattle.lock.specs.State.{processors, freshRow, freshState, row, putRow, putTail}
 use Rattle.lock.proofs.Rows.{rows-put, row-put-same, row-put-other}
 
@@ -88,14 +89,6 @@ both-near {s} {t} {p} {y} w o =
       near = row-put-same t y (w (row t y)) (o .near-room) ∙ ap w (o .near);
       others = λ q a b. row-put-other t y (w (row t y)) q b ∙ o .others q a b;
     }
-
--- a statement of every number, by whether the number is p
-pub by-same : (F : ℕ → Type 0) (p : ℕ) → F p → ((q : ℕ) → q ≢ p → F q) → (q : ℕ) → F q
-by-same F p same other q = go (eqb q p) refl
-  where
-    go : (b : Bool) → eqb q p ≡ b → F q
-    go true e = rw (eqb-true q p e) same
-    go false e = other q (eqb-false q p e)
 
 pub own-all :
     (F : ℕ → Row → Type 0) {s t : LockState} {p : ℕ} {r : Row} → Own s t p r → F p r → ((q : ℕ) → q ≢ p → F q (row s q))

@@ -2,13 +2,12 @@
 -- of one processor, which does the act of its place. Every law about a call goes by these two cases.
 use Prim.Native.Nat.{ℕ, _≤_, _<_}
 use mathlib.Core.Path.{_≡_, refl, sym, ap, _∙_, subst}
-use mathlib.Core.Bool.{Bool, true, false, not, _&&_, _||_}
+use mathlib.Core.Bool.{Bool, true, false, not, _&&_, _||_, cond}
 use lib.ListN.{length}
 use lib.Dec.{eqb, leb}
 use borrow.Author.Tests.{leb-false}
 use Rattle.lock.specs.declared.LockState.{LockState}
 use Rattle.lock.specs.declared.Answer.{Answer}
-use Rattle.lock.specs.Choice.{pick}
 use Rattle.lock.specs.State.{processors, row, putRow, putFlag, withFlag}
 use Rattle.lock.specs.Sound.{sound}
 use Rattle.lock.specs.Table.{stepped}
@@ -56,8 +55,8 @@ pub data Kind (s : LockState) (c : Call) : Type 0 where
 -- the answer, by the outcomes of its tests
 abbrev answer : Bool → Bool → Bool → Bool → LockState → LockState → LockState → Answer
 answer isSound isStep isRaise past s x y =
-    pick (not isSound) (refused 11 s)
-    (pick (not (isStep || isRaise)) (refused 8 s) (pick past (refused 9 s) (accepted (pick isStep x y))))
+    cond (not isSound) (refused 11 s)
+    (cond (not (isStep || isRaise)) (refused 8 s) (cond past (refused 9 s) (accepted (cond isStep x y))))
 
 module _ (s : LockState) (c : Call) where
   told :

@@ -11,14 +11,13 @@ use Prim.Native.Nat.{ℕ, zero, suc, _+_, _-_, _≤_, _<_}
 use native.Mathlib.Nat.{not-suc-le-zero}
 use native.Mathlib.Omega.{arith}
 use mathlib.Core.Path.{_≡_, refl, sym, ap, _∙_, subst}
-use mathlib.Core.Bool.{Bool, true, false}
+use mathlib.Core.Bool.{Bool, true, false, cond}
 use mathlib.Core.List.{List, [], _∷_, _++_}
 use mathlib.Core.Logic.{_≢_}
 use lib.ListN.{length}
 use lib.Dec.{eqb}
 use borrow.Author.Tests.{eqb-true, eqb-false}
 use Rattle.lock.specs.declared.LockState.{LockState}
-use Rattle.lock.specs.Choice.{pick}
 use Rattle.lock.specs.Run.{Call, after, run, joins, enters}
 use Rattle.lock.specs.Count.{countIn, joinsIn, entriesIn, latestJoin, untilEntry}
 use Rattle.lock.proofs.Order.Tickets.{Tickets, ticketed}
@@ -38,13 +37,13 @@ module _ (test : LockState → Call → Bool) where
       (s : LockState) (c : Call) (cs : List Call) → test s c ≡ true
       → countIn test s (c ∷ cs) ≡ suc (countIn test (after s c) cs)
   unfolding countIn
-  count-yes s c cs e = ap (λ b. pick b (suc (countIn test (after s c) cs)) (countIn test (after s c) cs)) e
+  count-yes s c cs e = ap (λ b. cond b (suc (countIn test (after s c) cs)) (countIn test (after s c) cs)) e
 
   pub count-no :
       (s : LockState) (c : Call) (cs : List Call) → test s c ≡ false
       → countIn test s (c ∷ cs) ≡ countIn test (after s c) cs
   unfolding countIn
-  count-no s c cs e = ap (λ b. pick b (suc (countIn test (after s c) cs)) (countIn test (after s c) cs)) e
+  count-no s c cs e = ap (λ b. cond b (suc (countIn test (after s c) cs)) (countIn test (after s c) cs)) e
 
   count-none-by : (s : LockState) (c : Call) (cs : List Call) (b : Bool) → test s c ≡ b → countIn test s (c ∷ cs) ≡ 0
       → (test s c ≡ false) × (countIn test (after s c) cs ≡ 0)
@@ -86,9 +85,9 @@ until-entry-by : (s : LockState) (c : Call) (cs : List Call) (p : ℕ) (b : Bool
     → entriesIn (after s c) (untilEntry (after s c) cs p) p ≡ 0 → entriesIn s (untilEntry s (c ∷ cs) p) p ≡ 0
 unfolding untilEntry entriesIn countIn
 until-entry-by s c cs p true e h =
-    ap (λ b. countIn (λ t d. enters t d p) s (pick b [] (c ∷ untilEntry (after s c) cs p))) e
+    ap (λ b. countIn (λ t d. enters t d p) s (cond b [] (c ∷ untilEntry (after s c) cs p))) e
 until-entry-by s c cs p false e h =
-    ap (λ b. countIn (λ t d. enters t d p) s (pick b [] (c ∷ untilEntry (after s c) cs p))) e
+    ap (λ b. countIn (λ t d. enters t d p) s (cond b [] (c ∷ untilEntry (after s c) cs p))) e
     ∙ count-no (λ t d. enters t d p) s c (untilEntry (after s c) cs p) e ∙ h
 
 pub until-entry-has-none : (s : LockState) (cs : List Call) (p : ℕ) → entriesIn s (untilEntry s cs p) p ≡ 0
@@ -104,8 +103,8 @@ unfolding latestJoin joinsIn countIn
 latest-none s [] q h = refl
 latest-none s (c ∷ cs) q h =
     let none : (joins s c q ≡ false) × (joinsIn (after s c) cs q ≡ 0) = count-none (λ t d. joins t d q) s c cs h in
-    ap (λ m. pick (eqb m 0) (pick (joins s c q) 1 0) (suc m)) (latest-none (after s c) cs q (none .1)) ∙ ap
-    (λ b. pick b 1 0) (none .0)
+    ap (λ m. cond (eqb m 0) (cond (joins s c q) 1 0) (suc m)) (latest-none (after s c) cs q (none .1)) ∙ ap
+    (λ b. cond b 1 0) (none .0)
 
 pub latest-without-joins :
     (s : LockState) (xs ys : List Call) (q : ℕ) → joinsIn (run s xs) ys q ≡ 0
@@ -113,9 +112,9 @@ pub latest-without-joins :
 unfolding latestJoin run
 latest-without-joins s [] ys q h = latest-none s ys q h
 latest-without-joins s (c ∷ xs) ys q h =
-    ap (λ m. pick (eqb m 0) (pick (joins s c q) 1 0) (suc m)) (latest-without-joins (after s c) xs ys q h)
+    ap (λ m. cond (eqb m 0) (cond (joins s c q) 1 0) (suc m)) (latest-without-joins (after s c) xs ys q h)
 
-chosen-within : (m k : ℕ) (a b : Bool) → m ≤ k → pick a (pick b 1 0) (suc m) ≤ suc k
+chosen-within : (m k : ℕ) (a b : Bool) → m ≤ k → cond a (cond b 1 0) (suc m) ≤ suc k
 chosen-within m k true true h = omega arith
 chosen-within m k true false h = omega arith
 chosen-within m k false b h = omega arith

@@ -4,13 +4,12 @@
 -- and its two ends.
 use Prim.Native.Nat.{ℕ, zero, suc, _<_}
 use mathlib.Core.Path.{_≡_, refl, sym, ap, _∙_, subst}
-use mathlib.Core.Bool.{Bool, true, false}
+use mathlib.Core.Bool.{Bool, true, false, cond}
 use mathlib.Core.List.{List, [], _∷_}
 use mathlib.Core.Logic.{_≢_}
 use lib.ListN.{length, getD, set}
 use Rattle.lock.specs.declared.Row.{Row}
 use Rattle.lock.specs.declared.LockState.{LockState}
-use Rattle.lock.specs.Choice.{pick}
 use Rattle.lock.specs.State.{freshRow, row, putRow, putTail, putNext, putLocked, putGuard, putFlag, to, putPred, putSucc, putNx, withNext, withLocked, withGuard, withFlag, withPlace, withPred, withSucc, withNx, Released}
 use Rattle.lock.specs.Table.{Place, placeAt}
 use Rattle.lock.proofs.Rows.{rows-put, row-put-same, row-put-other}
@@ -128,12 +127,3 @@ stays {p} {ok} k good =
       rows = k .rows;
       size = k .size;
     }
-
--- a choice has what both its values have; with the test's outcome where a value needs it
-pub pick-of : {A : Type 0} (P : A → Type 0) (b : Bool) {x y : A} → P x → P y → P (pick b x y)
-pick-of P true h k = h
-pick-of P false h k = k
-
-pub pick-by : {A : Type 0} (P : A → Type 0) (b : Bool) {x y : A} → (b ≡ true → P x) → (b ≡ false → P y) → P (pick b x y)
-pick-by P true h k = h refl
-pick-by P false h k = k refl

@@ -3,18 +3,18 @@
 -- the step table is a row of `leads`, a law of its act, and a clause of `goes`.
 use Prim.Native.Nat.{ℕ, _<_}
 use mathlib.Core.Path.{_≡_, refl, sym, ap, _∙_}
-use mathlib.Core.Bool.{Bool, true, false, _&&_}
+use mathlib.Core.Bool.{Bool, true, false, _&&_, cond}
 use mathlib.Core.List.{List, [], _∷_}
 use lib.ListN.{length}
 use lib.Dec.{eqb, lit<}
 use borrow.Author.Tests.{eqb-true, eqb-false}
 use Rattle.lock.specs.declared.LockState.{LockState}
-use Rattle.lock.specs.Choice.{pick}
+use Rattle.choice.proofs.Tests.{by-either, by-test}
 use Rattle.lock.specs.State.{none, isNone, isPlain, isDrawn, isGuarded, Released, Locked, Preempted, RP, row, putLocked, putGuard, to, putNx}
-use Rattle.lock.specs.Acts as Acts
 use Rattle.lock.specs.Table.{Place, placeAt, act, rest, gate, clear, swap, arm, link, claim, spin, settle, inside, poll, service, back, regain, look, close, await, hand, fence, park, peek, take, lift, nowhere}
 use Rattle.lock.proofs.Waiting.Numbers.{allOf, all-at}
-use Rattle.lock.proofs.Waiting.Kept.{Kept, kept-self, kept-tail, kept-next, kept-guard, kept-flag, kept-pred, kept-succ, kept-nx, kept-release, kept-own, kept-locked, Goes, goes-to, stays, pick-of, pick-by}
+use Rattle.lock.proofs.Waiting.Kept.{Kept, kept-self, kept-tail, kept-next, kept-guard, kept-flag, kept-pred, kept-succ, kept-nx, kept-release, kept-own, kept-locked, Goes, goes-to, stays}
+use Rattle.lock.specs.Acts as Acts
 
 -- the places to which the act of a place can lead, in any edition
 abbrev pub leads : Place → List Place
@@ -51,8 +51,8 @@ module _ (s : LockState) (p : ℕ) (there : p < length (s .rows)) (ok : Place �
   to-queue : ok gate ≡ true → ok clear ≡ true → Goes s p ok (Acts.toQueue s p)
   unfolding Acts.toQueue
   to-queue g c =
-      goes-to (pick (isGuarded (s .edition)) 1 2) kept-self there
-      (pick-of (λ v. ok (placeAt v) ≡ true) (isGuarded (s .edition)) g c)
+      goes-to (cond (isGuarded (s .edition)) 1 2) kept-self there
+      (by-either (λ v. ok (placeAt v) ≡ true) (isGuarded (s .edition)) g c)
 
   to-hand : ok hand ≡ true → Goes s p ok (Acts.toHand s p)
   unfolding Acts.toHand
@@ -61,26 +61,26 @@ module _ (s : LockState) (p : ℕ) (there : p < length (s .rows)) (ok : Place �
   to-onward : (x : LockState) → Kept s p x → ok rest ≡ true → ok hand ≡ true → Goes s p ok (Acts.onward x p)
   unfolding Acts.onward
   to-onward x k r h =
-      pick-of (Goes s p ok) (isNone ((row x p) .nx)) (goes-to 0 k there r)
+      by-either (Goes s p ok) (isNone ((row x p) .nx)) (goes-to 0 k there r)
       (goes-to 17 (kept-succ p ((row x p) .nx) k) there h)
 
   to-lift :
       (x : LockState) → Kept s p x → ok lift ≡ true → ok rest ≡ true → ok hand ≡ true → Goes s p ok (Acts.toLift x p)
   unfolding Acts.toLift
-  to-lift x k l r h = pick-of (Goes s p ok) (isDrawn (x .edition)) (to-onward x k r h) (goes-to 22 k there l)
+  to-lift x k l r h = by-either (Goes s p ok) (isDrawn (x .edition)) (to-onward x k r h) (goes-to 22 k there l)
 
   -- Each act ends where `leads` says. `here` is needed where an act may stay.
   goes-rest : placeAt ((row s p) .place) ≡ rest → allOf ok (leads rest) ≡ true → Goes s p ok (Acts.rest s p)
   unfolding Acts.rest
   goes-rest here h =
-      pick-of (Goes s p ok) ((row s p) .flag)
+      by-either (Goes s p ok) ((row s p) .flag)
       (stays (kept-flag p false kept-self) (ap ok here ∙ all-at ok (leads rest) h 0 (lit< tt)))
       (to-queue (all-at ok (leads rest) h 1 (lit< tt)) (all-at ok (leads rest) h 2 (lit< tt)))
 
   goes-gate : placeAt ((row s p) .place) ≡ gate → allOf ok (leads gate) ≡ true → Goes s p ok (Acts.gate s p)
   unfolding Acts.gate
   goes-gate here h =
-      pick-of (Goes s p ok) ((row s p) .guard) (stays kept-self (ap ok here ∙ all-at ok (leads gate) h 0 (lit< tt)))
+      by-either (Goes s p ok) ((row s p) .guard) (stays kept-self (ap ok here ∙ all-at ok (leads gate) h 0 (lit< tt)))
       (goes-to 2 kept-self there (all-at ok (leads gate) h 1 (lit< tt)))
 
   goes-clear : allOf ok (leads clear) ≡ true → Goes s p ok (Acts.clear s p)
@@ -90,8 +90,8 @@ module _ (s : LockState) (p : ℕ) (there : p < length (s .rows)) (ok : Place �
   goes-swap : allOf ok (leads swap) ≡ true → Goes s p ok (Acts.swap s p)
   unfolding Acts.swap
   goes-swap h =
-      goes-to (pick (isNone (s .tail)) 9 4) (kept-tail p (kept-pred p (s .tail) kept-self)) there
-      (pick-of (λ v. ok (placeAt v) ≡ true) (isNone (s .tail)) (all-at ok (leads swap) h 0 (lit< tt))
+      goes-to (cond (isNone (s .tail)) 9 4) (kept-tail p (kept-pred p (s .tail) kept-self)) there
+      (by-either (λ v. ok (placeAt v) ≡ true) (isNone (s .tail)) (all-at ok (leads swap) h 0 (lit< tt))
       (all-at ok (leads swap) h 1 (lit< tt)))
 
   goes-arm : allOf ok (leads arm) ≡ true → Goes s p ok (Acts.arm s p)
@@ -101,23 +101,23 @@ module _ (s : LockState) (p : ℕ) (there : p < length (s .rows)) (ok : Place �
   goes-link : allOf ok (leads link) ≡ true → Goes s p ok (Acts.link s p)
   unfolding Acts.link
   goes-link h =
-      goes-to (pick (isPlain (s .edition)) 7 6) (kept-next ((row s p) .pred) p kept-self) there
-      (pick-of (λ v. ok (placeAt v) ≡ true) (isPlain (s .edition)) (all-at ok (leads link) h 0 (lit< tt))
+      goes-to (cond (isPlain (s .edition)) 7 6) (kept-next ((row s p) .pred) p kept-self) there
+      (by-either (λ v. ok (placeAt v) ≡ true) (isPlain (s .edition)) (all-at ok (leads link) h 0 (lit< tt))
       (all-at ok (leads link) h 1 (lit< tt)))
 
   goes-claim : allOf ok (leads claim) ≡ true → Goes s p ok (Acts.claim s p)
   unfolding Acts.claim
   goes-claim h =
-      pick-of (Goes s p ok) (eqb ((row s ((row s p) .pred)) .locked) RP)
+      by-either (Goes s p ok) (eqb ((row s ((row s p) .pred)) .locked) RP)
       (goes-to 8 (kept-release ((row s p) .pred) kept-self) there (all-at ok (leads claim) h 0 (lit< tt)))
       (goes-to 7 kept-self there (all-at ok (leads claim) h 1 (lit< tt)))
 
   goes-spin : placeAt ((row s p) .place) ≡ spin → allOf ok (leads spin) ≡ true → Goes s p ok (Acts.spin s p)
   unfolding Acts.spin
   goes-spin here h =
-      pick-of (Goes s p ok) (eqb ((row s p) .locked) Released)
+      by-either (Goes s p ok) (eqb ((row s p) .locked) Released)
       (goes-to 9 kept-self there (all-at ok (leads spin) h 0 (lit< tt)))
-      (pick-of (Goes s p ok) (isPlain (s .edition))
+      (by-either (Goes s p ok) (isPlain (s .edition))
       (stays kept-self (ap ok here ∙ all-at ok (leads spin) h 1 (lit< tt)))
       (goes-to 10 kept-self there (all-at ok (leads spin) h 2 (lit< tt))))
 
@@ -132,7 +132,7 @@ module _ (s : LockState) (p : ℕ) (there : p < length (s .rows)) (ok : Place �
   goes-poll : allOf ok (leads poll) ≡ true → Goes s p ok (Acts.poll s p)
   unfolding Acts.poll
   goes-poll h =
-      pick-of (Goes s p ok) ((row s p) .flag && eqb ((row s p) .locked) Locked)
+      by-either (Goes s p ok) ((row s p) .flag && eqb ((row s p) .locked) Locked)
       (goes-to 11 (kept-flag p false (kept-own Preempted kept-self)) there (all-at ok (leads poll) h 0 (lit< tt)))
       (goes-to 7 kept-self there (all-at ok (leads poll) h 1 (lit< tt)))
 
@@ -143,35 +143,35 @@ module _ (s : LockState) (p : ℕ) (there : p < length (s .rows)) (ok : Place �
   goes-back : allOf ok (leads back) ≡ true → Goes s p ok (Acts.back s p)
   unfolding Acts.back
   goes-back h =
-      pick-of (Goes s p ok) (eqb ((row s p) .locked) Preempted)
+      by-either (Goes s p ok) (eqb ((row s p) .locked) Preempted)
       (goes-to 7 (kept-own Locked kept-self) there (all-at ok (leads back) h 0 (lit< tt)))
       (goes-to 13 kept-self there (all-at ok (leads back) h 1 (lit< tt)))
 
   goes-regain : allOf ok (leads regain) ≡ true → Goes s p ok (Acts.regain s p)
   unfolding Acts.regain
   goes-regain h =
-      pick-of (Goes s p ok) (eqb ((row s p) .locked) RP)
+      by-either (Goes s p ok) (eqb ((row s p) .locked) RP)
       (goes-to 7 (kept-own Released kept-self) there (all-at ok (leads regain) h 0 (lit< tt)))
       (to-queue (all-at ok (leads regain) h 1 (lit< tt)) (all-at ok (leads regain) h 2 (lit< tt)))
 
   goes-look : allOf ok (leads look) ≡ true → Goes s p ok (Acts.look s p)
   unfolding Acts.look
   goes-look h =
-      pick-of (Goes s p ok) (isNone ((row s p) .next))
+      by-either (Goes s p ok) (isNone ((row s p) .next))
       (goes-to 15 kept-self there (all-at ok (leads look) h 0 (lit< tt)))
       (to-hand (all-at ok (leads look) h 1 (lit< tt)))
 
   goes-close : allOf ok (leads close) ≡ true → Goes s p ok (Acts.close s p)
   unfolding Acts.close
   goes-close h =
-      pick-of (Goes s p ok) (eqb (s .tail) p)
+      by-either (Goes s p ok) (eqb (s .tail) p)
       (goes-to 0 (kept-tail none kept-self) there (all-at ok (leads close) h 0 (lit< tt)))
       (goes-to 16 kept-self there (all-at ok (leads close) h 1 (lit< tt)))
 
   goes-await : placeAt ((row s p) .place) ≡ await → allOf ok (leads await) ≡ true → Goes s p ok (Acts.await s p)
   unfolding Acts.await
   goes-await here h =
-      pick-of (Goes s p ok) (isNone ((row s p) .next))
+      by-either (Goes s p ok) (isNone ((row s p) .next))
       (stays kept-self (ap ok here ∙ all-at ok (leads await) h 0 (lit< tt)))
       (to-hand (all-at ok (leads await) h 1 (lit< tt)))
 
@@ -180,10 +180,10 @@ module _ (s : LockState) (p : ℕ) (there : p < length (s .rows)) (ok : Place �
   goes-hand h =
       let handed : Goes s p ok (to (putLocked s ((row s p) .succ) Released) p 0) =
       goes-to 0 (kept-release ((row s p) .succ) kept-self) there (all-at ok (leads hand) h 0 (lit< tt)) in
-      pick-of (Goes s p ok) (isPlain (s .edition)) handed
-      (pick-of (Goes s p ok) (eqb ((row s ((row s p) .succ)) .locked) Locked) handed
-      (goes-to (pick (isDrawn (s .edition)) 19 18) kept-self there
-      (pick-of (λ v. ok (placeAt v) ≡ true) (isDrawn (s .edition)) (all-at ok (leads hand) h 1 (lit< tt))
+      by-either (Goes s p ok) (isPlain (s .edition)) handed
+      (by-either (Goes s p ok) (eqb ((row s ((row s p) .succ)) .locked) Locked) handed
+      (goes-to (cond (isDrawn (s .edition)) 19 18) kept-self there
+      (by-either (λ v. ok (placeAt v) ≡ true) (isDrawn (s .edition)) (all-at ok (leads hand) h 1 (lit< tt))
       (all-at ok (leads hand) h 2 (lit< tt)))))
 
   goes-fence : allOf ok (leads fence) ≡ true → Goes s p ok (Acts.fence s p)
@@ -194,7 +194,7 @@ module _ (s : LockState) (p : ℕ) (there : p < length (s .rows)) (ok : Place �
   goes-park : allOf ok (leads park) ≡ true → Goes s p ok (Acts.park s p)
   unfolding Acts.park
   goes-park h =
-      pick-by (Goes s p ok) (eqb ((row s ((row s p) .succ)) .locked) Preempted)
+      by-test (Goes s p ok) (eqb ((row s ((row s p) .succ)) .locked) Preempted)
       (λ e. goes-to 20
       (kept-locked ((row s p) .succ) RP
       (λ z. preempted-not-released (sym (eqb-true ((row s ((row s p) .succ)) .locked) Preempted e) ∙ z)) kept-self)
@@ -207,7 +207,7 @@ module _ (s : LockState) (p : ℕ) (there : p < length (s .rows)) (ok : Place �
   unfolding Acts.peek
   goes-peek h =
       let peeked : ℕ = (row s ((row s p) .succ)) .next in
-      pick-of (Goes s p ok) (isNone peeked)
+      by-either (Goes s p ok) (isNone peeked)
       (to-lift (putNx s p peeked) (kept-nx p peeked kept-self)
       (all-at ok (leads peek) h 1 (lit< tt)) (all-at ok (leads peek) h 2 (lit< tt))
       (all-at ok (leads peek) h 3 (lit< tt)))
@@ -216,7 +216,7 @@ module _ (s : LockState) (p : ℕ) (there : p < length (s .rows)) (ok : Place �
   goes-take : allOf ok (leads take) ≡ true → Goes s p ok (Acts.take s p)
   unfolding Acts.take
   goes-take h =
-      pick-of (Goes s p ok) (eqb ((row s ((row s p) .succ)) .locked) RP)
+      by-either (Goes s p ok) (eqb ((row s ((row s p) .succ)) .locked) RP)
       (to-lift (putLocked s ((row s p) .succ) Released) (kept-release ((row s p) .succ) kept-self)
       (all-at ok (leads take) h 0 (lit< tt)) (all-at ok (leads take) h 1 (lit< tt))
       (all-at ok (leads take) h 2 (lit< tt)))

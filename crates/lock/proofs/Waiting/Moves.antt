@@ -14,16 +14,15 @@ use lib.ListN.{length}
 use lib.Dec.{eqb, lit<}
 use borrow.Author.Tests.{eqb-true, not-true}
 use Rattle.lock.specs.declared.LockState.{LockState}
+use Rattle.choice.proofs.Tests.{and-left, and-right, implied, right-of}
 use Rattle.lock.specs.State.{processors, row}
 use Rattle.lock.specs.Table.{Place, placeAt, rest, gate, clear, swap, arm, link, claim, spin, settle, inside, poll, service, back, regain, look, close, await, hand, fence, park, peek, take, lift, nowhere}
 use Rattle.lock.specs.Run.{Call, after, stepsOf, joins, enters, interrupted}
-use Rattle.lock.proofs.Every.{and-left, and-right}
 use Rattle.lock.proofs.Order.Tickets.{member, isMember}
-use Rattle.lock.proofs.Order.Stages.{implied}
 use Rattle.lock.proofs.Waiting.Numbers.{allOf, at-every-place, number, number-test}
 use Rattle.lock.proofs.Waiting.Leads.{leads}
 use Rattle.lock.proofs.Waiting.Calls.{Kind, quiet, step, kind}
-use Rattle.lock.proofs.Waiting.Stepping.{or-left, stepping, anywhere, whoever, join-test, entry-test, interrupt-test, no-step-no-entry, joins-steps}
+use Rattle.lock.proofs.Waiting.Stepping.{stepping, anywhere, whoever, join-test, entry-test, interrupt-test, no-step-no-entry, joins-steps}
 
 -- the places of one that has joined and neither entered nor taken an interrupt
 abbrev pub waits : Place → Bool
@@ -110,10 +109,10 @@ spent-leads :
     (k : Place) → spent k ≡ true → eqb (number k) 3 ≡ false
     → allOf (λ j. spent j && not (eqb (number j) 9)) (leads k) ≡ true
 spent-leads k h other =
-    or-left (eqb (number k) 3) (allOf (λ j. spent j && not (eqb (number j) 9)) (leads k)) other
+    right-of (eqb (number k) 3) (allOf (λ j. spent j && not (eqb (number j) 9)) (leads k))
     (implied (spent k) (eqb (number k) 3 || allOf (λ j. spent j && not (eqb (number j) 9)) (leads k))
     (at-every-place (λ i. not (spent i) ||
-    (eqb (number i) 3 || allOf (λ j. spent j && not (eqb (number j) 9)) (leads i))) refl k) h)
+    (eqb (number i) 3 || allOf (λ j. spent j && not (eqb (number j) 9)) (leads i))) refl k) h) other
 
 pub spent-stays :
     (s : LockState) (c : Call) → length (s .rows) ≡ processors → (q : ℕ) → isSpent s q ≡ true → joins s c q ≡ false
@@ -169,11 +168,11 @@ waiter-stays s c whole = by (kind s c)
         (λ h none calm.
         let here : Place = placeAt ((row s (c .processor)) .place) in
         let j : Place = placeAt ((row (after s c) (c .processor)) .place) in
-        or-left (eqb (number here) 10 && eqb (number j) 11) (waits j) (interrupt-test s c whole k calm)
-        (or-left (eqb (number j) 9) ((eqb (number here) 10 && eqb (number j) 11) || waits j)
-        (entry-test s c whole k false none)
+        right-of (eqb (number here) 10 && eqb (number j) 11) (waits j)
+        (right-of (eqb (number j) 9) ((eqb (number here) 10 && eqb (number j) 11) || waits j)
         ((stepping s c whole k (λ i. eqb (number i) 9 || ((eqb (number here) 10 && eqb (number i) 11) || waits i))
-        (waits-leads here h)) .own)))
+        (waits-leads here h)) .own)
+        (entry-test s c whole k false none)) (interrupt-test s c whole k calm))
         (λ q other idle h none calm. ap (λ m. waits (placeAt m)) ((anywhere s c whole k) .others q other) ∙ h)
 
 -- the table's part: the swap leads inside or to a waiting place
@@ -196,9 +195,10 @@ joined-waits s c whole = by (kind s c)
         (λ q. joins s c q ≡ true → enters s c q ≡ false → waits (placeAt ((row (after s c) q) .place)) ≡ true)
         (λ h none.
         let j : Place = placeAt ((row (after s c) (c .processor)) .place) in
-        or-left (eqb (number j) 9) (waits j) (entry-test s c whole k false none)
+        right-of (eqb (number j) 9) (waits j)
         ((stepping s c whole k (λ i. eqb (number i) 9 || waits i)
-        (swap-leads (placeAt ((row s (c .processor)) .place)) (join-test s c whole k true h))) .own))
+        (swap-leads (placeAt ((row s (c .processor)) .place)) (join-test s c whole k true h))) .own)
+        (entry-test s c whole k false none))
         (λ q other idle h none. absurd (true≢false (sym (joins-steps s c q h) ∙ idle)))
 
 pub waiter-is-member : (s : LockState) (q : ℕ) → isWaiting s q ≡ true → isMember s q ≡ true

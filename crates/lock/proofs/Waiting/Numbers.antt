@@ -11,9 +11,9 @@ use mathlib.Core.List.{List, [], _∷_, _++_}
 use lib.ListN.{length, getD, List·getD-eq-default}
 use lib.Dec.{eqb, ltb, lit<}
 use borrow.Author.Tests.{eqb-true, ltb-true, ltb-false, ne-eqb}
+use Rattle.choice.proofs.Tests.{and-left, and-right}
 use Rattle.lock.specs.Sound.{places}
 use Rattle.lock.specs.Table.{Place, names, placeAt, rest, gate, clear, swap, arm, link, claim, spin, settle, inside, poll, service, back, regain, look, close, await, hand, fence, park, peek, take, lift, nowhere}
-use Rattle.lock.proofs.Every.{and-left, and-right}
 
 -- the test passes every place of the list
 abbrev pub allOf : (Place → Bool) → List Place → Bool

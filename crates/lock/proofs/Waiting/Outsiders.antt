@@ -4,25 +4,23 @@
 -- Released comes back outside.
 use Prim.Native.Nat.{ℕ, _<_}
 use mathlib.Core.Path.{_≡_, refl, sym, ap, ap₂, _∙_, subst}
-use mathlib.Core.Bool.{Bool, true, false, not, _&&_, _||_, or-true, true≢false, false≢true}
+use mathlib.Core.Bool.{Bool, true, false, not, _&&_, _||_, or-true, true≢false, false≢true, cond}
 use mathlib.Core.Logic.{_≢_}
 use lib.ListN.{length}
 use lib.Dec.{eqb}
 use borrow.Author.Tests.{eqb-true, not-true}
 use Rattle.lock.specs.declared.LockState.{LockState}
-use Rattle.lock.specs.Choice.{pick}
+use Rattle.choice.proofs.Tests.{implied, by-either, right-of}
 use Rattle.lock.specs.State.{processors, isGuarded, Released, Locked, Preempted, RP, row, putLocked, to, withPlace}
-use Rattle.lock.specs.Acts as Acts
 use Rattle.lock.specs.Table.{Place, placeAt, act, stepped, rest, gate, clear, swap, arm, link, claim, spin, settle, inside, poll, service, back, regain, look, close, await, hand, fence, park, peek, take, lift, nowhere}
 use Rattle.lock.specs.Run.{Call, after, joins}
 use Rattle.lock.proofs.Rows.{row-put-same}
 use Rattle.lock.proofs.Order.Tickets.{member, isMember}
-use Rattle.lock.proofs.Order.Stages.{implied}
 use Rattle.lock.proofs.Waiting.Numbers.{allOf, at-every-place, number}
-use Rattle.lock.proofs.Waiting.Kept.{pick-of}
 use Rattle.lock.proofs.Waiting.Leads.{leads}
 use Rattle.lock.proofs.Waiting.Calls.{Steps, Kind, quiet, step, kind}
-use Rattle.lock.proofs.Waiting.Stepping.{or-left, stepping, anywhere, whoever, join-test, there}
+use Rattle.lock.proofs.Waiting.Stepping.{stepping, anywhere, whoever, join-test, there}
+use Rattle.lock.specs.Acts as Acts
 
 -- the places outside the queue, whatever locked is
 abbrev outside : Place → Bool
@@ -147,15 +145,15 @@ module _ (s : LockState) (p : ℕ) (here : p < length (s .rows)) (released : (ro
   out-back : IsOut p (Acts.back s p)
   unfolding Acts.back
   out-back =
-      subst (IsOut p) (sym (ap (λ l. pick (eqb l Preempted) (to (putLocked s p Locked) p 7) (to s p 13)) released))
+      subst (IsOut p) (sym (ap (λ l. cond (eqb l Preempted) (to (putLocked s p Locked) p 7) (to s p 13)) released))
       (out-to 13 refl)
 
   out-regain : IsOut p (Acts.regain s p)
   unfolding Acts.regain Acts.toQueue
   out-regain =
-      subst (IsOut p) (sym (ap (λ l. pick (eqb l RP) (to (putLocked s p Released) p 7) (Acts.toQueue s p)) released))
-      (out-to (pick (isGuarded (s .edition)) 1 2)
-      (pick-of (λ v. (outside (placeAt v) || away (placeAt v)) ≡ true) (isGuarded (s .edition)) refl refl))
+      subst (IsOut p) (sym (ap (λ l. cond (eqb l RP) (to (putLocked s p Released) p 7) (Acts.toQueue s p)) released))
+      (out-to (cond (isGuarded (s .edition)) 1 2)
+      (by-either (λ v. (outside (placeAt v) || away (placeAt v)) ≡ true) (isGuarded (s .edition)) refl refl))
 
   out-away : (k : Place) → away k ≡ true → IsOut p (act k s p)
   out-away rest h = absurd (false≢true h)
@@ -186,9 +184,9 @@ module _ (s : LockState) (p : ℕ) (here : p < length (s .rows)) (released : (ro
 -- the table's part: from outside one gets outside, unless by the swap
 outside-leads : (k : Place) → outside k ≡ true → eqb (number k) 3 ≡ false → allOf outside (leads k) ≡ true
 outside-leads k h other =
-    or-left (eqb (number k) 3) (allOf outside (leads k)) other
+    right-of (eqb (number k) 3) (allOf outside (leads k))
     (implied (outside k) (eqb (number k) 3 || allOf outside (leads k))
-    (at-every-place (λ i. not (outside i) || (eqb (number i) 3 || allOf outside (leads i))) refl k) h)
+    (at-every-place (λ i. not (outside i) || (eqb (number i) 3 || allOf outside (leads i))) refl k) h) other
 
 module _ (s : LockState) (c : Call) (whole : length (s .rows) ≡ processors) (k : Steps s c) where
   own-outsider : Out (placeAt ((row s (c .processor)) .place)) ((row s (c .processor)) .locked)

@@ -6,13 +6,12 @@
 use Prim.Native.Nat.{ℕ, suc, _≤_, _<_}
 use native.Mathlib.Omega.{arith}
 use mathlib.Core.Path.{_≡_, refl, sym, ap, _∙_, subst}
-use mathlib.Core.Bool.{Bool, true, false, true≢false}
+use mathlib.Core.Bool.{Bool, true, false, true≢false, cond}
 use mathlib.Core.List.{List, [], _∷_, _++_}
 use lib.ListN.{length}
 use lib.Dec.{eqb}
 use borrow.Author.Tests.{eqb-true, eq-eqb}
 use Rattle.lock.specs.declared.LockState.{LockState}
-use Rattle.lock.specs.Choice.{pick}
 use Rattle.lock.specs.State.{processors}
 use Rattle.lock.specs.Run.{Call, after, run, joins, enters, interrupted}
 use Rattle.lock.specs.Count.{joinsIn, entriesIn, interruptsIn, between, untilEntry}
@@ -50,10 +49,10 @@ queued-between-by : (s : LockState) (join : Call) (later : List Call) (p : ℕ) 
     → interruptsIn (after s join) (between s join later p) p ≡ 0 → Queued (after s join) (between s join later p) p
 unfolding between
 queued-between-by s join later p true e whole h calm =
-    subst (λ b. Queued (after s join) (pick b [] (untilEntry (after s join) later p)) p) (sym e) tt
+    subst (λ b. Queued (after s join) (cond b [] (untilEntry (after s join) later p)) p) (sym e) tt
 queued-between-by s join later p false e whole h calm =
-    let off : pick (enters s join p) [] (untilEntry (after s join) later p) ≡ untilEntry (after s join) later p =
-    ap (λ b. pick b [] (untilEntry (after s join) later p)) e in
+    let off : cond (enters s join p) [] (untilEntry (after s join) later p) ≡ untilEntry (after s join) later p =
+    ap (λ b. cond b [] (untilEntry (after s join) later p)) e in
     subst (λ cs. Queued (after s join) cs p) (sym off)
     (queued-waiting (after s join) (untilEntry (after s join) later p) p (rows-after s join whole)
     (joined-waits s join whole p h e)
@@ -132,15 +131,15 @@ module _ (s : LockState) (g : Tickets) (c : Call) where
   ticketed-yes : joins s c (c .processor) ≡ true
       → ticketed s g c ≡ record {
         count = suc (g .count);
-        latest = λ q. pick (eqb q (c .processor)) (g .count)
+        latest = λ q. cond (eqb q (c .processor)) (g .count)
             (g .latest q);
       }
   unfolding ticketed
   ticketed-yes e =
       ap
-      (λ b. pick b (record {
+      (λ b. cond b (record {
         count = suc (g .count);
-        latest = λ q. pick (eqb q (c .processor)) (g .count)
+        latest = λ q. cond (eqb q (c .processor)) (g .count)
             (g .latest q);
       }) g) e
 
@@ -148,9 +147,9 @@ module _ (s : LockState) (g : Tickets) (c : Call) where
   unfolding ticketed
   ticketed-no e =
       ap
-      (λ b. pick b (record {
+      (λ b. cond b (record {
         count = suc (g .count);
-        latest = λ q. pick (eqb q (c .processor)) (g .count)
+        latest = λ q. cond (eqb q (c .processor)) (g .count)
             (g .latest q);
       }) g) e
 
@@ -160,7 +159,7 @@ module _ (s : LockState) (g : Tickets) (c : Call) where
   ticket-joined q h =
       let own : c .processor ≡ q = joins-own s c q h in
       let e : joins s c (c .processor) ≡ true = subst (λ i. joins s c i ≡ true) (sym own) h in (
-        ap (λ t. t .latest q) (ticketed-yes e) ∙ ap (λ b. pick b (g .count) (g .latest q))
+        ap (λ t. t .latest q) (ticketed-yes e) ∙ ap (λ b. cond b (g .count) (g .latest q))
             (eq-eqb q (c .processor) (sym own)),
         ap (λ t. t .count) (ticketed-yes e),
       )
@@ -176,7 +175,7 @@ module _ (s : LockState) (g : Tickets) (c : Call) where
   kept-by q true true e f h =
       absurd (true≢false (sym e ∙ ap (λ i. joins s c i) (sym (eqb-true q (c .processor) f)) ∙ h))
   kept-by q true false e f h = (
-    ap (λ t. t .latest q) (ticketed-yes e) ∙ ap (λ b. pick b (g .count) (g .latest q)) f,
+    ap (λ t. t .latest q) (ticketed-yes e) ∙ ap (λ b. cond b (g .count) (g .latest q)) f,
     let more : (ticketed s g c) .count ≡ suc (g .count) = ap (λ t. t .count) (ticketed-yes e) in omega arith,
   )
 

@@ -5,12 +5,11 @@
 --     between-one-step   nothing is between where join and entry are one step
 use Prim.Native.Nat.{ℕ, suc}
 use mathlib.Core.Path.{_≡_, refl, ap, _∙_}
-use mathlib.Core.Bool.{Bool, true, false}
+use mathlib.Core.Bool.{Bool, true, false, cond}
 use mathlib.Core.List.{List, [], _∷_, _++_}
 use lib.ListN.{length}
 use lib.Dec.{eqb, eqb·suc-zero}
 use Rattle.lock.specs.declared.LockState.{LockState}
-use Rattle.lock.specs.Choice.{pick}
 use Rattle.lock.specs.Run.{Call, after, run, joins, enters}
 use Rattle.lock.specs.Count.{entriesIn, latestJoin, untilEntry, between}
 use Rattle.lock.proofs.Waiting.Counting.{count-none}
@@ -18,28 +17,28 @@ use Rattle.lock.proofs.Waiting.Counting.{count-none}
 -- in front of a latest join whose number is known, by whether the last call is the join
 latest-last-by :
     (m k x : ℕ) (b : Bool)
-    → pick (eqb (pick b (suc m) k) 0) x (suc (pick b (suc m) k)) ≡ pick b (suc (suc m)) (pick (eqb k 0) x (suc k))
-latest-last-by m k x true = ap (λ b. pick b x (suc (suc m))) (eqb·suc-zero m)
+    → cond (eqb (cond b (suc m) k) 0) x (suc (cond b (suc m) k)) ≡ cond b (suc (suc m)) (cond (eqb k 0) x (suc k))
+latest-last-by m k x true = ap (λ b. cond b x (suc (suc m))) (eqb·suc-zero m)
 latest-last-by m k x false = refl
 
 pub latest-last :
     (s : LockState) (cs : List Call) (c : Call) (q : ℕ)
-    → latestJoin s (cs ++ c ∷ []) q ≡ pick (joins (run s cs) c q) (suc (length cs)) (latestJoin s cs q)
+    → latestJoin s (cs ++ c ∷ []) q ≡ cond (joins (run s cs) c q) (suc (length cs)) (latestJoin s cs q)
 unfolding latestJoin run
 latest-last s [] c q = refl
 latest-last s (d ∷ cs) c q =
-    ap (λ m. pick (eqb m 0) (pick (joins s d q) 1 0) (suc m)) (latest-last (after s d) cs c q)
-    ∙ latest-last-by (length cs) (latestJoin (after s d) cs q) (pick (joins s d q) 1 0) (joins (run (after s d) cs) c q)
+    ap (λ m. cond (eqb m 0) (cond (joins s d q) 1 0) (suc m)) (latest-last (after s d) cs c q)
+    ∙ latest-last-by (length cs) (latestJoin (after s d) cs q) (cond (joins s d q) 1 0) (joins (run (after s d) cs) c q)
 
 pub until-entry-is :
     (s : LockState) (wait : List Call) (entry : Call) (rest : List Call) (p : ℕ)
     → entriesIn s wait p ≡ 0 → enters (run s wait) entry p ≡ true → untilEntry s (wait ++ entry ∷ rest) p ≡ wait
 unfolding untilEntry entriesIn run
-until-entry-is s [] entry rest p none e = ap (λ b. pick b [] (entry ∷ untilEntry (after s entry) rest p)) e
+until-entry-is s [] entry rest p none e = ap (λ b. cond b [] (entry ∷ untilEntry (after s entry) rest p)) e
 until-entry-is s (c ∷ wait) entry rest p none e =
     let first : (enters s c p ≡ false) × (entriesIn (after s c) wait p ≡ 0) =
     count-none (λ t d. enters t d p) s c wait none in
-    ap (λ b. pick b [] (c ∷ untilEntry (after s c) (wait ++ entry ∷ rest) p)) (first .0)
+    ap (λ b. cond b [] (c ∷ untilEntry (after s c) (wait ++ entry ∷ rest) p)) (first .0)
     ∙ ap (λ ds. c ∷ ds) (until-entry-is (after s c) wait entry rest p (first .1) e)
 
 pub between-is :
@@ -48,10 +47,10 @@ pub between-is :
     → between s join (wait ++ entry ∷ rest) p ≡ wait
 unfolding between
 between-is s join wait entry rest p not-yet none e =
-    ap (λ b. pick b [] (untilEntry (after s join) (wait ++ entry ∷ rest) p)) not-yet ∙ until-entry-is
+    ap (λ b. cond b [] (untilEntry (after s join) (wait ++ entry ∷ rest) p)) not-yet ∙ until-entry-is
     (after s join) wait entry rest p none e
 
 pub between-one-step :
     (s : LockState) (join : Call) (later : List Call) (p : ℕ) → enters s join p ≡ true → between s join later p ≡ []
 unfolding between
-between-one-step s join later p e = ap (λ b. pick b [] (untilEntry (after s join) later p)) e
+between-one-step s join later p e = ap (λ b. cond b [] (untilEntry (after s join) later p)) e

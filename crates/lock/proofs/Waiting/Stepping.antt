@@ -14,24 +14,14 @@ use lib.ListN.{length}
 use lib.Dec.{eqb, lit<}
 use borrow.Author.Tests.{eqb-true, eqb-false, eq-eqb}
 use Rattle.lock.specs.declared.LockState.{LockState}
+use Rattle.choice.proofs.Tests.{and-left, and-rest}
 use Rattle.lock.specs.State.{processors, row}
 use Rattle.lock.specs.Table.{Place, placeAt, stepped}
 use Rattle.lock.specs.Run.{Call, after, stepsOf, joins, enters, interrupted}
-use Rattle.lock.proofs.Every.{and-left}
 use Rattle.lock.proofs.Waiting.Numbers.{allOf, at-every-place, number, number-test}
 use Rattle.lock.proofs.Waiting.Kept.{Goes}
 use Rattle.lock.proofs.Waiting.Leads.{leads, goes}
 use Rattle.lock.proofs.Waiting.Calls.{Steps, Kind, quiet, step, kind}
-
--- what is left of a disjunction whose first part fails
-pub or-left : (a b : Bool) → a ≡ false → (a || b) ≡ true → b ≡ true
-or-left true b e h = absurd (true≢false e)
-or-left false b e h = h
-
--- what a conjunction says whose first part holds
-pub and-rest : (a b v : Bool) → a ≡ true → (a && b) ≡ v → b ≡ v
-and-rest true b v e h = h
-and-rest false b v e h = absurd (false≢true e)
 
 -- A step of p, seen through a test that passes wherever the act of p's place leads.
 module _ (s : LockState) (c : Call) (whole : length (s .rows) ≡ processors) (k : Steps s c) where

@@ -1,10 +1,10 @@
 -- `bench::turns::answer` meets its contract: by the lock's answer, the row is shown or the line refused.
 use mathlib.Core.Path.{_≡_, refl}
 use Rattle.lock.specs.Event.{happens}
-use borrow.Author.Needs.{needs}
-use Rattle.bench.proofs.Sound.{carried-is}
 use Rattle.bench.specs.Log.{answered}
+use Rattle.bench.proofs.Sound.{carried-is}
 use Rattle.bench.proofs.Sizes.{row-size}
+use borrow.Author.Needs.{needs}
 use Rattle.bench.proofs.turns.answer.Statement.{statement}
 use Rattle.bench.proofs.turns.answer.Tie as tie
 

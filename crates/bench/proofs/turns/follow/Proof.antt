@@ -7,8 +7,7 @@ use denote.Ref.{now}
 use lib.ListN.{length, length-drop}
 use borrow.Author.Needs.{needs}
 use borrow.Author.Tests.{not-true, not-false}
-use Rattle.bench.proofs.Carried.{Carried, begins, turn-room, turn-long}
-use Rattle.bench.proofs.Carried.{turn-stops, turn-goes-on, count-ends, count-long}
+use Rattle.bench.proofs.Carried.{Carried, begins, turn-room, turn-long, turn-stops, turn-goes-on, count-ends, count-long}
 use Rattle.bench.proofs.turns.follow.Statement.{statement}
 use Rattle.bench.proofs.turns.follow.Tie as tie
 

@@ -4,11 +4,12 @@ use Prim.Native.Nat.{_*_, _-_, _≤_}
 use native.Mathlib.Omega.{arith}
 use native.Mathlib.Nat.{le-antisymm}
 use mathlib.Core.Path.{_≡_, refl, ap, _∙_}
-use Rattle.frame.specs.Pairs.{every, isDigit, byteAt}
+use Rattle.choice.specs.Every.{every}
+use Rattle.choice.proofs.Numbers.{every-next}
+use Rattle.frame.specs.Pairs.{isDigit, byteAt}
 use Rattle.frame.specs.Reading.{areDigits}
 use denote.Ref.{now}
 use borrow.Author.Needs.{needs}
-use Rattle.frame.proofs.Every.{every-next}
 use Rattle.frame.proofs.pairs.are_digits.Statement.{statement}
 use Rattle.frame.proofs.pairs.are_digits.Tie as tie
 

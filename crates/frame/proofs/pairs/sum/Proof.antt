@@ -5,8 +5,8 @@ use native.Mathlib.Nat.{le-antisymm}
 use native.Mathlib.Omega.{arith}
 use mathlib.Core.Path.{_≡_, refl, ap, _∙_}
 use Rattle.frame.specs.Pairs.{sumOf, pairsFrom}
-use denote.Ref.{now}
 use Rattle.frame.proofs.Lines.{digit-within, sum-goes-on}
+use denote.Ref.{now}
 use borrow.Author.Needs.{needs}
 use Rattle.frame.proofs.pairs.sum.Statement.{statement}
 use Rattle.frame.proofs.pairs.sum.Tie as tie

@@ -1,7 +1,7 @@
 -- `lock::LockState::sound_rows` meets its contract. The loop's invariant: `ok` is the test of the rows below `i`.
 use borrow.Author.Needs.{needs}
 use Prim.Native.Nat.{ℕ, _+_, _≤_, _-_}
-use mathlib.Core.Bool.{Bool, _&&_}
+use mathlib.Core.Bool.{Bool, _&&_, cond}
 use lib.Dec.{ltb}
 use mathlib.Core.Path.{_≡_, refl, ap, _∙_}
 use native.Mathlib.Numerals.{add-one}
@@ -9,7 +9,7 @@ use native.Mathlib.Omega.{arith}
 use lib.ListN.{length}
 use Rattle.lock.specs.declared.Row.{Row}
 use Rattle.lock.specs.declared.LockState.{LockState}
-use Rattle.lock.specs.Choice.{pick, every}
+use Rattle.choice.specs.Every.{every}
 use Rattle.lock.specs.Sound.{cellsSound, placeSound, asFresh, soundRow}
 use Rattle.lock.specs.State.{processors, row}
 use Rattle.lock.proofs.Rows.{length-mapped, row-within}
@@ -45,7 +45,7 @@ loop-less : tie.Need-loop-less Inv-loop μ-loop
 loop-less c = search needs
 
 -- one row more
-one-more : (s : LockState) (i : ℕ) (ok b : Bool) (r : Row) → r ≡ row s i → ok ≡ every i (soundRow s) → b ≡ pick (ltb i (s .n)) (cellsSound (s .n) r && placeSound (s .edition) r) (asFresh r) → (ok && b) ≡ every (i + 1) (soundRow s)
+one-more : (s : LockState) (i : ℕ) (ok b : Bool) (r : Row) → r ≡ row s i → ok ≡ every i (soundRow s) → b ≡ cond (ltb i (s .n)) (cellsSound (s .n) r && placeSound (s .edition) r) (asFresh r) → (ok && b) ≡ every (i + 1) (soundRow s)
 unfolding every soundRow
 one-more s i ok b r e all one = simp (add-one, all, one, e)
 

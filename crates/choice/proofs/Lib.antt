@@ -1,0 +1,3 @@
+-- Laws of tests, and of a test of every number below a bound.
+pub mod Tests
+pub mod Numbers

@@ -1,0 +1,2 @@
+-- The one definition that the other crates' definitions share.
+pub mod Every
