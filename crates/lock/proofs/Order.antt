@@ -10,9 +10,6 @@
 --     Hand, Fence, Take              places 17 and 19; 18; 20 to 22
 --     Invariant                      fresh, after every call, and who enters first
 pub mod Tickets
-pub mod Calls
-pub mod Writes
-pub mod Stages
 pub mod Roles
 pub mod Statement
 pub mod Carry

@@ -6,8 +6,8 @@
 --     ready                a whole state is ready, and p's place tells what is known
 --     whole                a ready state in which p's place is sound is whole
 use Prim.Native.Nat.{ℕ, _<_, _≤_}
-use mathlib.Core.Path.{_≡_, refl}
-use mathlib.Core.Bool.{Bool, true, false, _&&_, false≢true}
+use mathlib.Core.Path.{_≡_, refl, sym, subst}
+use mathlib.Core.Bool.{Bool, true, false, not, _&&_, false≢true}
 use mathlib.Core.Logic.{_≢_}
 use native.Mathlib.Omega.{arith}
 use lib.ListN.{length}
@@ -18,7 +18,7 @@ use Rattle.lock.specs.declared.LockState.{LockState}
 use Rattle.choice.specs.Every.{every}
 use Rattle.choice.proofs.Numbers.{every-from, every-at, by-same}
 use Rattle.choice.proofs.Tests.{and-left, and-right, and-both}
-use Rattle.lock.specs.State.{processors, row}
+use Rattle.lock.specs.State.{processors, isNone, row}
 use Rattle.lock.specs.Sound.{noneOrBelow, isThere, wantsPred, wantsSucc, wantsNx, hasPlace, cellsSound, placeSound, asFresh, soundRow, sound}
 use Rattle.lock.specs.Kept.{Whole}
 
@@ -109,6 +109,17 @@ place-tells e r h =
     let c = parts true (hasPlace e (r .place)) a b (isThere (k .nx) (r .nx)) h in
     (c .1, record { pred = c .2; succ = c .3; nx = c .4 })
 
+-- a row that is as fresh is at rest, which every edition has
+fresh-place : (r : Row) → asFresh r ≡ true → r .place ≡ 0
+unfolding asFresh
+fresh-place r h =
+    let a = isNone (r .next) && eqb (r .locked) 0 && not (r .guard) && not (r .flag) in
+    eqb-true (r .place) 0 (parts a (eqb (r .place) 0) (isNone (r .pred)) (isNone (r .succ)) (isNone (r .nx)) h .1)
+
+rest-has : (e : ℕ) → leb e 2 ≡ true → hasPlace e 0 ≡ true
+unfolding every hasPlace
+rest-has e small = let low : e ≤ 2 = leb-true e 2 small in every-at 3 (λ e. hasPlace e 0) refl e (omega arith)
+
 module _ (s : LockState) where
   -- short for this section
   abbrev e : ℕ
@@ -128,7 +139,7 @@ module _ (s : LockState) where
     row-below : (i : ℕ) → i < n → cellsSound n (row s i) && placeSound e (row s i) ≡ true
     unfolding soundRow
     row-below i below =
-        let most : s .n ≤ 16 = leb-true n 16 (ranges .2) in
+        let most : s .n ≤ processors = leb-true n processors (ranges .2) in
         rw (lt-ltb i n below, soundRow) at (every-at processors (soundRow s) (ranges .4) i (omega arith))
 
     row-from : (i : ℕ) → n ≤ i → i < processors → asFresh (row s i) ≡ true
@@ -142,6 +153,20 @@ module _ (s : LockState) where
 
     pub row-place : (i : ℕ) → i < n → placeSound e (row s i) ≡ true
     row-place i below = and-right (cellsSound n (row s i)) (placeSound e (row s i)) (row-below i below)
+
+    -- within the N, so within the rows
+    pub row-room : {p : ℕ} → length (s .rows) ≡ processors → p < n → p < length (s .rows)
+    row-room rooms below = let most : n ≤ processors = leb-true n processors (ranges .2) in omega arith
+
+    -- each row's place is one that the edition has, also from N on
+    pub row-has : (i : ℕ) → i < processors → hasPlace e ((row s i) .place) ≡ true
+    row-has i room = by (ltb i n) refl
+      where
+        by : (b : Bool) → ltb i n ≡ b → hasPlace e ((row s i) .place) ≡ true
+        by true t = place-tells e (row s i) (row-place i (ltb-true i n t)) .0
+        by false t =
+            subst (λ (m : ℕ). hasPlace e m ≡ true) (sym (fresh-place (row s i) (row-from i (ltb-false i n t) room)))
+            (rest-has e (ranges .0))
 
     but-place : (p : ℕ) → length (s .rows) ≡ processors → p < n → ButPlace s p
     but-place p rooms below =

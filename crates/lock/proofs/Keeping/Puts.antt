@@ -20,10 +20,10 @@ use Rattle.lock.specs.declared.LockState.{LockState}
 use Rattle.choice.specs.Every.{every}
 use Rattle.choice.proofs.Tests.{and-both}
 use Rattle.choice.proofs.Numbers.{by-same, every-at}
-use Rattle.lock.specs.State.{isNone, row, putRow, withNext, withLocked, withGuard, withFlag, withPlace, withPred, withSucc, withNx, putTail, putNext, putLocked, putGuard, putFlag, to, putPred, putSucc, putNx}
+use Rattle.lock.specs.State.{processors, isNone, row, putRow, withNext, withLocked, withGuard, withFlag, withPlace, withPred, withSucc, withNx, putTail, putNext, putLocked, putGuard, putFlag, to, putPred, putSucc, putNx}
 use Rattle.lock.specs.Sound.{noneOrBelow, isThere, placeSound}
 use Rattle.lock.specs.Kept.{Whole}
-use Rattle.lock.proofs.Rows.{rows-put, row-put-same, row-put-other}
+use Rattle.lock.proofs.Ground.Rows.{rows-put, row-put-same, row-put-other}
 use Rattle.lock.proofs.Keeping.Parts.{Known, HasIn, CellsIn, Fits, ButPlace, Ready, standing, parts, joint, row-place, ready, whole}
 
 -- what holds of the row put and of the rows that were holds of every row
@@ -46,8 +46,8 @@ module _ {s : LockState} {p : ℕ} (x : ButPlace s p) where
   -- within the N, so within the rows
   room : (q : ℕ) → q < s .n → q < length (s .rows)
   room q below =
-      let rooms : length (s .rows) ≡ 16 = x .rooms in
-      let most : s .n ≤ 16 = leb-true (s .n) 16 (x .most) in
+      let rooms = x .rooms in
+      let most : s .n ≤ processors = leb-true (s .n) processors (x .most) in
       omega arith
 
   put :

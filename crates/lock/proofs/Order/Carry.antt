@@ -15,9 +15,9 @@ use mathlib.Core.Bool.{Bool, true, false, cond}
 use mathlib.Core.Logic.{_≢_}
 use native.Mathlib.Omega.{arith}
 use Rattle.lock.specs.State.{none, isNone}
+use Rattle.lock.proofs.Ground.Facts.{Role, out, raw, wait, tok, rel, lag, Facts}
 use Rattle.lock.proofs.Order.Tickets.{Tickets}
-use Rattle.lock.proofs.Order.Stages.{Stage}
-use Rattle.lock.proofs.Order.Roles.{Role, out, raw, wait, tok, rel, lag, role, isQueued, joining, fences, isTaking, isOpen, isLifting}
+use Rattle.lock.proofs.Order.Roles.{isQueued}
 use Rattle.lock.proofs.Order.Statement.{Ghost, Books, Linked, Queued, Raw, Wait, Tok, Rel, Lag, Duty, given-map, Fencing, Fenced, Fit}
 
 abbrev pub moved : Ghost → (a u : ℕ) → (ℕ → ℕ) → (ℕ → Bool) → ℕ → Ghost
@@ -119,15 +119,15 @@ module _ (g : Tickets) (G : Ghost) (a u : ℕ) (W : ℕ → Bool) (r : ℕ) (mor
   }
 
   pub pass-fit :
-      {e q : ℕ} {st : Stage} {l next pred succ nx : ℕ} {guard : Bool}
-      → Asks g G a u W r q next (cond (isLifting st) nx succ)
+      {e q : ℕ} {st : Facts} {l next pred succ nx : ℕ} {guard : Bool}
+      → Asks g G a u W r q next (cond (st .lifts) nx succ)
       → Fit e g G q st l next pred succ nx guard → Fit e g (passed G a u W r) q st l next pred succ nx guard
   pass-fit {q = q} {st = st} {l = l} {next = next} {succ = succ} {nx = nx} k f =
       record {
         small = f .small;
         settles = f .settles;
-        duty = pass (role st l (isNone nx)) q next succ (cond (isLifting st) nx succ) k (f .duty);
-        joins = given-map (joining st) (λ b j i x y. j i x (omega arith)) (f .joins);
+        duty = pass (st .role l (isNone nx)) q next succ (cond (st .lifts) nx succ) k (f .duty);
+        joins = given-map (st .joining) (λ b j i x y. j i x (omega arith)) (f .joins);
         blank = f .blank;
         fencing = f .fencing;
         peeking = f .peeking;
@@ -184,11 +184,11 @@ module _ (g : Tickets) (G : Ghost) (F : ℕ → ℕ) (K : ℕ → Bool) (Z : ℕ
   refence lag q next succ heir la d = let w = la d in record { away = d .away; fenced = w .0; parked = w .1 }
 
   pub refence-fit :
-      {e q : ℕ} {st : Stage} {l next pred succ nx : ℕ} {guard old : Bool}
+      {e q : ℕ} {st : Facts} {l next pred succ nx : ℕ} {guard old : Bool}
       → (Lag g G q succ → (F succ ≡ suc q) × (K succ ≡ true))
-      → (Fencing (fences st) (G .fencer) q succ → Fencing (fences st) F q succ)
-      → (isTaking st ≡ true → (G .peeked succ ≡ nx) × (nx ≢ none) → (Z succ ≡ nx) × (nx ≢ none))
-      → (guard ≡ true → isOpen st ≡ true)
+      → (Fencing (st .fences) (G .fencer) q succ → Fencing (st .fences) F q succ)
+      → ((st .takes) ≡ true → (G .peeked succ ≡ nx) × (nx ≢ none) → (Z succ ≡ nx) × (nx ≢ none))
+      → (guard ≡ true → (st .opens) ≡ true)
       → (F q ≢ 0 → Fenced (K q) (Z q) l next guard)
       → (guard ≡ true → (e ≢ 0) × (F q ≢ 0))
       → Fit e g G q st l next pred succ nx old → Fit e g (refenced G F K Z) q st l next pred succ nx guard
@@ -196,11 +196,11 @@ module _ (g : Tickets) (G : Ghost) (F : ℕ → ℕ) (K : ℕ → Bool) (Z : ℕ
       record {
         small = f .small;
         settles = f .settles;
-        duty = refence (role st l (isNone nx)) q next succ (cond (isLifting st) nx succ) la (f .duty);
+        duty = refence (st .role l (isNone nx)) q next succ (cond (st .lifts) nx succ) la (f .duty);
         joins = f .joins;
         blank = f .blank;
         fencing = fe (f .fencing);
-        peeking = given-map (isTaking st) pe (f .peeking);
+        peeking = given-map (st .takes) pe (f .peeking);
         shut = sh;
         fenced = fd;
         manned = mn;

@@ -1,7 +1,7 @@
 -- Place 18: the heir's guard is set before the lock is parked on it. Nobody fences the heir yet: another who hands on
 -- there is not, and who lags on a row finds its locked Released or R_P, but the heir waits.
 use Prim.Native.Nat.{ℕ, suc, _<_}
-use mathlib.Core.Path.{_≡_, refl, sym, ap, _∙_}
+use mathlib.Core.Path.{_≡_, refl, sym, ap, subst, _∙_}
 use mathlib.Core.Bool.{Bool, true, false}
 use mathlib.Core.Logic.{_≢_, ⊎-elim}
 use native.Mathlib.Omega.{arith}
@@ -11,13 +11,14 @@ use Rattle.lock.specs.declared.Row.{Row}
 use Rattle.lock.specs.declared.LockState.{LockState}
 use Rattle.choice.proofs.Tests.{clash}
 use Rattle.choice.proofs.Numbers.{by-same}
-use Rattle.lock.specs.State.{none, isNone, withGuard, withPlace, row, putRow, putGuard, to}
-use Rattle.lock.specs.Sound.{sound}
+use Rattle.lock.specs.State.{none, isNone, withGuard, withPlace, row}
+use Rattle.lock.specs.Sound.{hasPlace, sound}
+use Rattle.lock.specs.Table.{placeAt, fence}
+use Rattle.lock.proofs.Ground.Facts.{rel, lag, facts, factsAt, isLeft}
 use Rattle.lock.proofs.Order.Tickets.{Tickets}
-use Rattle.lock.proofs.Order.Calls.{sound-plain}
-use Rattle.lock.proofs.Order.Writes.{both-start, both-own, both-near}
-use Rattle.lock.proofs.Order.Stages.{fencing, stageAt}
-use Rattle.lock.proofs.Order.Roles.{rel, lag, fences, isOpen, isLeft, wait-open, wait-stays, fences-kind, taking-lag, plain-fencing}
+use Rattle.lock.proofs.Keeping.Parts.{row-has}
+use Rattle.lock.proofs.Ground.Writes.{both-start, both-to, near-guard}
+use Rattle.lock.proofs.Order.Roles.{wait-open, wait-stays, fences-kind, taking-lag, plain-fencing}
 use Rattle.lock.proofs.Order.Statement.{Ghost, upd, upd-same, upd-other, upd-back, Rel, Lag, Fenced, Fit, FitRow, Holds}
 use Rattle.lock.proofs.Order.Carry.{refenced, refence-books, fenced-same, manned-same, fencing-map, refence, refence-fit}
 use Rattle.lock.proofs.Order.Near.{duty-as, Heir, heir-waits}
@@ -25,7 +26,7 @@ use Rattle.lock.proofs.Order.Build.{both-holds}
 use Rattle.lock.proofs.Order.Quiet.{mine}
 use Rattle.lock.specs.Acts as Acts
 
-module _ (s : LockState) (g : Tickets) (p : ℕ) (v : Holds s g) (room : p < length (s .rows)) (e : stageAt ((row s p) .place) ≡ fencing) where
+module _ (s : LockState) (g : Tickets) (p : ℕ) (v : Holds s g) (room : p < length (s .rows)) (e : placeAt ((row s p) .place) ≡ fence) where
   abbrev R : Row
   R = row s p
 
@@ -47,7 +48,7 @@ module _ (s : LockState) (g : Tickets) (p : ℕ) (v : Holds s g) (room : p < len
   abbrev Z : ℕ → ℕ
   Z = upd (G .peeked) y none
 
-  f : Fit (s .edition) g G p fencing (R .locked) (R .next) (R .pred) (R .succ) (R .nx) (R .guard)
+  f : Fit (s .edition) g G p (facts fence) (R .locked) (R .next) (R .pred) (R .succ) (R .nx) (R .guard)
   f = mine s g p v room e
 
   d : Rel g G p y
@@ -63,25 +64,25 @@ module _ (s : LockState) (g : Tickets) (p : ℕ) (v : Holds s g) (room : p < len
       let on : G .fencer y ≢ 0 = λ n. let b : suc q ≡ 0 = sym (k .fenced) ∙ ap (G .fencer) o ∙ n in omega arith in
       clash ((fy .fenced on) .still (sym (ap (G .lagged) o) ∙ k .parked))
       (not-true (isLeft (Y .locked))
-      (wait-stays (stageAt (Y .place)) (Y .locked) (isNone (Y .nx)) (fy .small) (heir .waiting) (fy .settles)))
+      (wait-stays (Y .place) (Y .locked) (isNone (Y .nx)) (fy .small) (heir .waiting) (fy .settles)))
 
   -- nor does another fence it
-  no-fence : (q : ℕ) → q ≢ p → fences (stageAt ((row s q) .place)) ≡ true → (row s q) .succ ≢ y
+  no-fence : (q : ℕ) → q ≢ p → ((factsAt ((row s q) .place)) .fences) ≡ true → (row s q) .succ ≢ y
   no-fence q a k =
       let r = row s q in
       ⊎-elim (λ o u. a ((duty-as s g v q {ρ = rel} o) .only ∙ sym (d .only)))
       (λ o. no-lag q (duty-as s g v q {ρ = lag} o))
-      (fences-kind (stageAt (r .place)) (r .locked) (isNone (r .nx)) ((v .fits q) .small) k)
+      (fences-kind (r .place) (r .locked) (isNone (r .nx)) ((v .fits q) .small) k)
 
   -- whoever is not p, with its guard as it is now
   other :
-      (q : ℕ) → q ≢ p → (guard : Bool) → (guard ≡ true → isOpen (stageAt ((row s q) .place)) ≡ true)
+      (q : ℕ) → q ≢ p → (guard : Bool) → (guard ≡ true → ((factsAt ((row s q) .place)) .opens) ≡ true)
       → (F q ≢ 0 → Fenced (K q) (Z q) ((row s q) .locked) ((row s q) .next) guard)
       → (guard ≡ true → (s .edition ≢ 0) × (F q ≢ 0))
       → FitRow (s .edition) g (refenced G F K Z) q (withGuard (row s q) guard)
   other q a guard sh fd mn =
       let r = row s q in
-      let st = stageAt (r .place) in
+      let st = factsAt (r .place) in
       refence-fit g G F K Z
       (λ k.
       let ne : r .succ ≢ y = no-lag q k in (
@@ -89,12 +90,12 @@ module _ (s : LockState) (g : Tickets) (p : ℕ) (v : Holds s g) (room : p < len
         upd-other (G .lagged) y false (r .succ) ne
             ∙ k .parked,
       ))
-      (fencing-map (fences st) (G .fencer) F q (r .succ)
+      (fencing-map (st .fences) (G .fencer) F q (r .succ)
       (λ b k. upd-other (G .fencer) y (suc p) (r .succ) (no-fence q a b) ∙ k)
       (λ x k. upd-back (G .fencer) y (suc p) (suc q) x (λ z. a (omega arith)) k))
       (λ k w. (
         upd-other (G .peeked) y none (r .succ)
-            (no-lag q (duty-as s g v q {ρ = lag} (taking-lag st (r .locked) (isNone (r .nx)) ((v .fits q) .small) k)))
+            (no-lag q (duty-as s g v q {ρ = lag} (taking-lag (r .place) (r .locked) (isNone (r .nx)) ((v .fits q) .small) k)))
             ∙ w .0,
         w .1,
       ))
@@ -123,14 +124,13 @@ module _ (s : LockState) (g : Tickets) (p : ℕ) (v : Holds s g) (room : p < len
       }
 
   pub fence-holds : sound s ≡ true → Holds (Acts.fence s p) g
-  unfolding Acts.fence to putGuard putRow
+  unfolding Acts.fence
   fence-holds fit =
       both-holds v (refenced G F K Z)
-      (both-own (λ r. withPlace r 19)
-      (both-near (λ r. withGuard r true) (both-start s p y (heir .apart) room (heir .near)))) refl
+      (both-to (near-guard (both-start s p y (heir .apart) room (heir .near)) _) _)
       (refence-books F K Z (v .books)) own
       (other y (λ k. heir .apart (sym k)) true
-      (λ k. wait-open (stageAt (Y .place)) (Y .locked) (isNone (Y .nx)) ((v .fits y) .small) (heir .waiting))
+      (λ k. wait-open (Y .place) (Y .locked) (isNone (Y .nx)) ((v .fits y) .small) (heir .waiting) ((v .fits y) .settles))
       (λ k.
       record {
         set = refl;
@@ -138,7 +138,10 @@ module _ (s : LockState) (g : Tickets) (p : ℕ) (v : Holds s g) (room : p < len
         kept = λ n. absurd (n (upd-same (G .peeked) y none));
       })
       (λ k. (
-        λ plain. plain-fencing (R .place) (sound-plain s p fit plain (rw (v .rooms) at room)) e,
+        λ plain.
+            plain-fencing (R .place)
+            (subst (λ (z : ℕ). hasPlace z (R .place) ≡ true) plain
+            (row-has s fit p (subst (λ (n : ℕ). p < n) (v .rooms) room))) e,
         λ n. let z : suc p ≡ 0 = sym (upd-same (G .fencer) y (suc p)) ∙ n in omega arith,
       )))
       (λ q a b.

@@ -11,18 +11,19 @@ use Rattle.lock.specs.declared.Row.{Row}
 use Rattle.lock.specs.declared.LockState.{LockState}
 use Rattle.choice.proofs.Tests.{clash, by-test}
 use Rattle.choice.proofs.Numbers.{by-same}
-use Rattle.lock.specs.State.{none, isNone, isPlain, isDrawn, Released, Locked, Preempted, RP, withLocked, withPlace, withNx, row, putRow, putLocked, to, putNx}
-use Rattle.lock.specs.Sound.{sound}
+use Rattle.lock.specs.State.{processors, none, isNone, isPlain, isDrawn, Released, Locked, Preempted, RP, row, putLocked, putNx, to}
+use Rattle.lock.specs.Sound.{hasPlace, sound}
+use Rattle.lock.specs.Table.{placeAt, hand, park}
+use Rattle.lock.proofs.Ground.Facts.{wait, tok, factsAt, facts, settled}
 use Rattle.lock.proofs.Order.Tickets.{Tickets}
-use Rattle.lock.proofs.Order.Calls.{sound-plain}
-use Rattle.lock.proofs.Order.Writes.{own-start, own-put, both-start, both-own, both-near}
-use Rattle.lock.proofs.Order.Stages.{handing, fencing, parking, stageAt}
-use Rattle.lock.proofs.Order.Roles.{wait, tok, role, settled, isLifting, preempted-tok, preempted-settled, wait-tok, plain-wait}
+use Rattle.lock.proofs.Keeping.Parts.{row-has}
+use Rattle.lock.proofs.Ground.Writes.{own-start, both-start, both-to, near-locked, own-nx, own-to}
+use Rattle.lock.proofs.Order.Roles.{role, preempted-tok, preempted-settled, wait-tok, plain-wait}
 use Rattle.lock.proofs.Order.Statement.{Ghost, upd, upd-same, upd-other, Books, Tok, Rel, Fencing, Fit, Holds}
 use Rattle.lock.proofs.Order.Carry.{passed, refenced, refence-books, queued-map, Asks, pass-fit, fenced-same, refence, refence-fit}
 use Rattle.lock.proofs.Order.Near.{same-join, there-some, heir-waits}
 use Rattle.lock.proofs.Order.Build.{both-holds, quiet, free-fit, relock}
-use Rattle.lock.proofs.Order.Quiet.{ordered-drawn, mine, go}
+use Rattle.lock.proofs.Order.Quiet.{ordered-drawn, mine, go, to-lift}
 use Rattle.lock.specs.Acts as Acts
 
 module _ (s : LockState) (g : Tickets) (p : ℕ) (v : Holds s g) (room : p < length (s .rows)) where
@@ -81,20 +82,19 @@ module _ (s : LockState) (g : Tickets) (p : ℕ) (v : Holds s g) (room : p < len
         first = omega arith;
       }
 
-  handed : stageAt (R .place) ≡ handing → Y .locked ≡ 1 → Holds (to (putLocked s y Released) p 0) g
-  unfolding to putLocked putRow
+  handed : placeAt (R .place) ≡ hand → Y .locked ≡ Locked → Holds (to (putLocked s y Released) p 0) g
   handed e h =
       let f = mine s g p v room e in
       let d = f .duty in
       let z = heir-waits s g v p y d in
-      let st = stageAt (Y .place) in
+      let m = Y .place in
+      let st = factsAt m in
       let x = isNone (Y .nx) in
       let fy = v .fits y in
-      let w = wait-tok st x (subst (λ (l : ℕ). role st l x ≡ wait) h (z .waiting))
+      let w = wait-tok m x (subst (λ (l : ℕ). role m l x ≡ wait) h (z .waiting))
       (subst (λ (l : ℕ). settled st l ≡ true) h (fy .settles)) in
       both-holds v H
-      (both-own (λ r. withPlace r 0) (both-near (λ r. withLocked r Released)
-      (both-start s p y (z .apart) room (z .near)))) refl
+      (both-to (near-locked (both-start s p y (z .apart) room (z .near)) _) _)
       (serve-books d) (free-fit refl (f .small) (f .settles) (d .away) (f .fenced) (f .manned) (f .fencing))
       (record {
         small = refl;
@@ -111,46 +111,47 @@ module _ (s : LockState) (g : Tickets) (p : ℕ) (v : Holds s g) (room : p < len
       (λ q a b.
       pass-fit g G (G .gone) (suc (G .gone)) (G .linked) (G .releaser) (omega arith) (λ i k. k)
       (serve-asks d q ((row s q) .next)
-      (cond (isLifting (stageAt ((row s q) .place))) ((row s q) .nx) ((row s q) .succ)) a b)
+      (cond ((factsAt ((row s q) .place)) .lifts) ((row s q) .nx) ((row s q) .succ)) a b)
       (v .fits q))
 
-  pub hand-holds : sound s ≡ true → stageAt (R .place) ≡ handing → Holds (Acts.hand s p) g
+  pub hand-holds : sound s ≡ true → placeAt (R .place) ≡ hand → Holds (Acts.hand s p) g
   unfolding Acts.hand
   hand-holds fit e =
       by-test (λ t. Holds t g) (isPlain (s .edition)) (λ h. handed e (plain h))
       (λ h.
-      by-test (λ t. Holds t g) (eqb (Y .locked) Locked) (λ b. handed e (eqb-true (Y .locked) 1 b))
-      (λ b. rw (ordered-drawn (s .edition) (v .ordered))
-      (go s g p v room 18 (free-fit refl (f .small) (f .settles) (f .duty) (f .fenced) (f .manned) (f .fencing)))))
+      by-test (λ t. Holds t g) (eqb (Y .locked) Locked) (λ b. handed e (eqb-true (Y .locked) Locked b))
+      (λ b.
+      by-test (λ k. Holds (to s p k) g) (isDrawn (s .edition))
+      (λ c. clash c (ordered-drawn (s .edition) (v .ordered)))
+      (λ c. go s g p v room _ (free-fit refl (f .small) (f .settles) (f .duty) (f .fenced) (f .manned) (f .fencing)))))
     where
-      f : Fit (s .edition) g G p handing (R .locked) (R .next) (R .pred) (R .succ) (R .nx) (R .guard)
+      f : Fit (s .edition) g G p (facts hand) (R .locked) (R .next) (R .pred) (R .succ) (R .nx) (R .guard)
       f = mine s g p v room e
 
       -- in the plain edition who waits is Locked
-      plain : isPlain (s .edition) ≡ true → Y .locked ≡ 1
+      plain : isPlain (s .edition) ≡ true → Y .locked ≡ Locked
       plain h =
           let z = heir-waits s g v p y (f .duty) in
-          let near : y < 16 = rw (v .rooms) at (z .near) in
+          let near : y < processors = subst (λ (n : ℕ). y < n) (v .rooms) (z .near) in
           plain-wait (Y .place) (Y .locked) (isNone (Y .nx)) ((v .fits y) .small)
-          (sound-plain s y fit (eqb-true (s .edition) 0 h) near) (z .waiting) ((v .fits y) .settles)
+          (subst (λ (e : ℕ). hasPlace e (Y .place) ≡ true) (eqb-true (s .edition) 0 h) (row-has s fit y near)) (z .waiting) ((v .fits y) .settles)
 
   -- the lock is parked on the heir: it is served, and p lags
   parked :
-      (e : stageAt (R .place) ≡ parking) → Y .locked ≡ 2 → Rel g G p y → Fencing true (G .fencer) p y
+      (e : placeAt (R .place) ≡ park) → Y .locked ≡ Preempted → Rel g G p y → Fencing true (G .fencer) p y
       → Holds (to (putLocked s y RP) p 20) g
-  unfolding to putLocked putRow
   parked e h d on =
       let f = mine s g p v room e in
       let z = heir-waits s g v p y d in
-      let st = stageAt (Y .place) in
+      let m = Y .place in
+      let st = factsAt m in
       let x = isNone (Y .nx) in
       let fy = v .fits y in
-      let two : settled st 2 ≡ true = subst (λ (l : ℕ). settled st l ≡ true) h (fy .settles) in
+      let two : settled st Preempted ≡ true = subst (λ (l : ℕ). settled st l ≡ true) h (fy .settles) in
       let K = upd (G .lagged) y true in
       let same : (q : ℕ) → q ≢ y → K q ≡ G .lagged q = λ q b. upd-other (G .lagged) y true q b in
       both-holds v (refenced H (G .fencer) K (G .peeked))
-      (both-own (λ r. withPlace r 20)
-      (both-near (λ r. withLocked r RP) (both-start s p y (z .apart) room (z .near)))) refl
+      (both-to (near-locked (both-start s p y (z .apart) room (z .near)) _) _)
       (refence-books (G .fencer) K (G .peeked) (serve-books d))
       (record {
         small = f .small;
@@ -167,10 +168,10 @@ module _ (s : LockState) (g : Tickets) (p : ℕ) (v : Holds s g) (room : p < len
       })
       (record {
         small = refl;
-        settles = preempted-settled st two;
+        settles = preempted-settled m two;
         duty =
-            rw (preempted-tok st x two)
-            (refence g H (G .fencer) K (G .peeked) tok y (Y .next) (Y .succ) (cond (isLifting st) (Y .nx) (Y .succ))
+            rw (preempted-tok m x two)
+            (refence g H (G .fencer) K (G .peeked) tok y (Y .next) (Y .succ) (cond (st .lifts) (Y .nx) (Y .succ))
             (λ k. absurd (k .away (z .queued .low) (z .queued .high) (z .queued .mine))) (serve-heir d));
         joins = fy .joins;
         blank = fy .blank;
@@ -187,25 +188,25 @@ module _ (s : LockState) (g : Tickets) (p : ℕ) (v : Holds s g) (room : p < len
       (fenced-same H (G .fencer) K (G .peeked) q (r .locked) (r .next) (r .guard) refl (same q b) refl
       ((v .fits q) .fenced)) ((v .fits q) .manned)
       (pass-fit g G (G .gone) (suc (G .gone)) (G .linked) (G .releaser) (omega arith) (λ i k. k)
-      (serve-asks d q (r .next) (cond (isLifting (stageAt (r .place))) (r .nx) (r .succ)) a b) (v .fits q)))
+      (serve-asks d q (r .next) (cond ((factsAt (r .place)) .lifts) (r .nx) (r .succ)) a b) (v .fits q)))
     where
       more : (q : ℕ) → G .lagged q ≡ true → upd (G .lagged) y true q ≡ true
       more =
           by-same (λ q. G .lagged q ≡ true → upd (G .lagged) y true q ≡ true) y (λ k. upd-same (G .lagged) y true)
           (λ q b k. upd-other (G .lagged) y true q b ∙ k)
 
-  pub park-holds : stageAt (R .place) ≡ parking → Holds (Acts.park s p) g
-  unfolding Acts.park Acts.toLift to putNx putRow
+  pub park-holds : placeAt (R .place) ≡ park → Holds (Acts.park s p) g
+  unfolding Acts.park
   park-holds e =
       let f = mine s g p v room e in
       let d = f .duty in
       let z = heir-waits s g v p y d in
       let some : isNone y ≡ false = ne-eqb y none (there-some s g v y (z .near)) in
-      by-test (λ t. Holds t g) (eqb (Y .locked) Preempted) (λ h. parked e (eqb-true (Y .locked) 2 h) d (f .fencing))
+      by-test (λ t. Holds t g) (eqb (Y .locked) Preempted) (λ h. parked e (eqb-true (Y .locked) Preempted h) d (f .fencing))
       (λ h.
-      by-test (λ t. Holds t g) (isDrawn (s .edition)) (λ b. clash b (ordered-drawn (s .edition) (v .ordered)))
-      (λ b.
-      quiet v (own-put (λ r. withPlace r 22) (own-put (λ r. withNx r y) (own-start s p room))) refl refl
+      let o = own-nx (own-start s p room) y in
+      to-lift s g p v room (putNx s p y) (o .edition)
+      (quiet v (own-to o _)
       (record {
         small = f .small;
         settles = f .settles;

@@ -13,12 +13,12 @@ use borrow.Author.Tests.{eqb-true, eqb-false}
 use Rattle.lock.specs.declared.Row.{Row}
 use Rattle.lock.specs.declared.LockState.{LockState}
 use Rattle.choice.proofs.Numbers.{by-same}
-use Rattle.lock.specs.State.{none, isNone, withPlace, withPred, row, putRow, putTail, to, putPred}
-use Rattle.lock.proofs.Order.Tickets.{Tickets}
-use Rattle.lock.proofs.Order.Calls.{joined}
-use Rattle.lock.proofs.Order.Writes.{own-start, own-put, own-tail}
-use Rattle.lock.proofs.Order.Stages.{Stage, swapping, stageAt}
-use Rattle.lock.proofs.Order.Roles.{Role, out, raw, wait, tok, rel, lag, role, joining, isLifting}
+use Rattle.choice.proofs.Tests.{by-test}
+use Rattle.lock.specs.State.{none, isNone, row, putTail, to, putPred}
+use Rattle.lock.specs.Table.{placeAt, swap}
+use Rattle.lock.proofs.Ground.Facts.{Role, out, raw, wait, tok, rel, lag, Facts, facts}
+use Rattle.lock.proofs.Order.Tickets.{Tickets, joined}
+use Rattle.lock.proofs.Ground.Writes.{own-start, own-tail, some-row, own-pred, own-to}
 use Rattle.lock.proofs.Order.Statement.{Ghost, upd, upd-same, upd-other, Books, Queued, Away, Duty, given-map, Fit, Holds}
 use Rattle.lock.proofs.Order.Carry.{moved, queued-map}
 use Rattle.lock.proofs.Order.Build.{own-holds, free-fit}
@@ -104,15 +104,15 @@ module _ (g : Tickets) (G : Ghost) (p u : ℕ) (past : (q : ℕ) → g .latest q
     join-duty lag next succ heir w = record { away = still-away (w .away); fenced = w .fenced; parked = w .parked }
 
     pub join-fit :
-        {e : ℕ} {st : Stage} {l next pred succ nx : ℕ} {guard : Bool} → Fit e g G q st l next pred succ nx guard
+        {e : ℕ} {st : Facts} {l next pred succ nx : ℕ} {guard : Bool} → Fit e g G q st l next pred succ nx guard
         → Fit e h H q st l next pred succ nx guard
     join-fit {st = st} {l = l} {next = next} {succ = succ} {nx = nx} f =
         record {
           small = f .small;
           settles = f .settles;
-          duty = join-duty (role st l (isNone nx)) next succ (cond (isLifting st) nx succ) (f .duty);
+          duty = join-duty (st .role l (isNone nx)) next succ (cond (st .lifts) nx succ) (f .duty);
           joins =
-              given-map (joining st)
+              given-map (st .joining)
               (λ b j i x y.
               let le = past q in
               let at : suc i ≡ g .latest q = x ∙ same in
@@ -128,7 +128,7 @@ module _ (g : Tickets) (G : Ghost) (p u : ℕ) (past : (q : ℕ) → g .latest q
 
 module _ (s : LockState) (g : Tickets) (p : ℕ) (v : Holds s g) (room : p < length (s .rows)) where
   pub there : p ≢ none
-  there e = let b : length (s .rows) ≡ 16 = v .rooms in omega arith
+  there = some-row s p (v .rooms) room
 
   -- a join that p did not make yet: it is another's
   made-by-another : Away g (v .ghost) p → (i : ℕ) → v .ghost .gone ≤ i → i < g .count → v .ghost .who i ≢ p
@@ -183,9 +183,10 @@ module _ (s : LockState) (g : Tickets) (p : ℕ) (v : Holds s g) (room : p < len
         chain = λ d. absurd (d blank);
       }
 
-  pub swap-holds : stageAt ((row s p) .place) ≡ swapping → Holds (Acts.swap s p) (joined g p)
-  unfolding Acts.swap to putTail putPred putRow
-  swap-holds e = by-tail (isNone (s .tail)) refl
+  pub swap-holds : placeAt ((row s p) .place) ≡ swap → Holds (Acts.swap s p) (joined g p)
+  unfolding Acts.swap
+  swap-holds e =
+      by-test (λ k. Holds (to (putTail (putPred s p (s .tail)) p) p k) (joined g p)) (isNone (s .tail)) alone behind
     where
       G : Ghost
       G = v .ghost
@@ -193,32 +194,33 @@ module _ (s : LockState) (g : Tickets) (p : ℕ) (v : Holds s g) (room : p < len
       r : Row
       r = row s p
 
-      f : Fit (s .edition) g G p swapping (r .locked) (r .next) (r .pred) (r .succ) (r .nx) (r .guard)
+      f : Fit (s .edition) g G p (facts swap) (r .locked) (r .next) (r .pred) (r .succ) (r .nx) (r .guard)
       f = mine s g p v room e
 
       me : (joined g p) .latest p ≡ g .count
       me = upd-same (g .latest) p (g .count)
 
-      by-tail :
-          (b : Bool) → isNone (s .tail) ≡ b → Holds (to (putTail (putPred s p (s .tail)) p) p (cond b 9 4)) (joined g p)
-      by-tail true t =
+      alone : isNone (s .tail) ≡ true → Holds (to (putTail (putPred s p (s .tail)) p) p 9) (joined g p)
+      alone t =
           let u = suc (g .count) in
           let empty : G .gone ≡ g .count = v .books .empty (eqb-true (s .tail) none t) in
           own-holds v (entered g G p u)
-          (own-put (λ r. withPlace r 9) (own-tail p (own-put (λ r. withPred r (s .tail)) (own-start s p room)))) refl
+          (own-to (own-tail (own-pred (own-start s p room) _) p) _)
           (join-books u (f .duty) (omega arith) (omega arith))
           (free-fit refl (f .small) (f .settles)
           (record { queued = join-queued u (r .next) (v .books .low) (f .blank); first = rw me (omega arith) })
           (f .fenced) (f .manned) (f .fencing))
           (λ q d. join-fit g G p u (v .books .past) (λ z. absurd (omega arith)) q d (v .fits q))
-      by-tail false t =
+
+      behind : isNone (s .tail) ≡ false → Holds (to (putTail (putPred s p (s .tail)) p) p 4) (joined g p)
+      behind t =
           let u = G .served in
           let last = v .books .last (eqb-false (s .tail) none t) in
           let some : G .gone < g .count = last .0 in
           let least = v .books .least in
           let most = v .books .most in
           own-holds v (entered g G p u)
-          (own-put (λ r. withPlace r 4) (own-tail p (own-put (λ r. withPred r (s .tail)) (own-start s p room)))) refl
+          (own-to (own-tail (own-pred (own-start s p room) _) p) _)
           (join-books u (f .duty) least most)
           (record {
             small = f .small;

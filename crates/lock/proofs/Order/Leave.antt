@@ -10,11 +10,12 @@ use borrow.Author.Tests.{eqb-true, eqb-false}
 use Rattle.lock.specs.declared.Row.{Row}
 use Rattle.lock.specs.declared.LockState.{LockState}
 use Rattle.choice.proofs.Tests.{clash, by-test}
-use Rattle.lock.specs.State.{none, isNone, withPlace, withSucc, row, putRow, putTail, to, putSucc}
+use Rattle.lock.specs.State.{none, isNone, row, putTail, to}
+use Rattle.lock.specs.Table.{placeAt, inside, look, close, await}
+use Rattle.lock.proofs.Ground.Facts.{facts}
 use Rattle.lock.proofs.Order.Tickets.{Tickets}
-use Rattle.lock.proofs.Order.Writes.{own-start, own-put, own-tail}
-use Rattle.lock.proofs.Order.Stages.{holding, stageAt}
-use Rattle.lock.proofs.Order.Statement.{Ghost, Holds}
+use Rattle.lock.proofs.Ground.Writes.{own-start, own-tail, own-succ, own-to}
+use Rattle.lock.proofs.Order.Statement.{Ghost, Fit, Holds}
 use Rattle.lock.proofs.Order.Carry.{passed, pass-fit, books-pop}
 use Rattle.lock.proofs.Order.Near.{before, served-first, pop-asks, there-some}
 use Rattle.lock.proofs.Order.Build.{own-holds, free-fit}
@@ -28,10 +29,13 @@ module _ (s : LockState) (g : Tickets) (p : ℕ) (v : Holds s g) (room : p < len
   abbrev G : Ghost
   G = v .ghost
 
-  to-hand : stageAt (R .place) ≡ holding → isNone (R .next) ≡ false → Holds (Acts.toHand s p) g
-  unfolding Acts.toHand to putSucc putRow
-  to-hand e h =
-      let f = mine s g p v room e in
+  -- what is said of who has entered
+  abbrev Holder : Type 0
+  Holder = Fit (s .edition) g G p (facts inside) (R .locked) (R .next) (R .pred) (R .succ) (R .nx) (R .guard)
+
+  to-hand : Holder → isNone (R .next) ≡ false → Holds (Acts.toHand s p) g
+  unfolding Acts.toHand
+  to-hand f h =
       let d = f .duty in
       let c = d .queued .chain (eqb-false (R .next) none h) in
       let first = served-first s g v d in
@@ -41,7 +45,7 @@ module _ (s : LockState) (g : Tickets) (p : ℕ) (v : Holds s g) (room : p < len
       let next-is : suc (g .latest p) ≡ suc (G .gone) = ap suc front in
       let done : G .linked (suc (G .gone)) ≡ true = sym (ap (G .linked) next-is) ∙ c .done in
       own-holds v (passed G (suc (G .gone)) (G .served) (G .linked) p)
-      (own-put (λ r. withPlace r 17) (own-put (λ r. withSucc r (R .next)) (own-start s p room))) refl
+      (own-to (own-succ (own-start s p room) _) _)
       (books-pop _ _ _ (v .books) (omega arith) (omega arith) (omega arith))
       (free-fit refl (f .small) (f .settles)
       (record {
@@ -56,20 +60,20 @@ module _ (s : LockState) (g : Tickets) (p : ℕ) (v : Holds s g) (room : p < len
       (pop-asks s g v p (R .next) p d (λ q next k z. clash (ap (G .linked) z ∙ done) (k .unlinked)) q _ _ a)
       (v .fits q))
 
-  pub look-holds : stageAt (R .place) ≡ holding → Holds (Acts.look s p) g
+  pub look-holds : placeAt (R .place) ≡ look → Holds (Acts.look s p) g
   unfolding Acts.look
-  look-holds e = by-test (λ t. Holds t g) (isNone (R .next)) (λ h. go s g p v room 15 (mine s g p v room e))
-      (λ h. to-hand e h)
+  look-holds e = by-test (λ t. Holds t g) (isNone (R .next)) (λ h. go s g p v room _ (mine s g p v room e))
+      (λ h. to-hand (mine s g p v room e) h)
 
-  pub await-holds : stageAt (R .place) ≡ holding → Holds (Acts.await s p) g
+  pub await-holds : placeAt (R .place) ≡ await → Holds (Acts.await s p) g
   unfolding Acts.await
-  await-holds e = by-test (λ t. Holds t g) (isNone (R .next)) (λ h. v) (λ h. to-hand e h)
+  await-holds e = by-test (λ t. Holds t g) (isNone (R .next)) (λ h. v) (λ h. to-hand (mine s g p v room e) h)
 
-  pub close-holds : stageAt (R .place) ≡ holding → Holds (Acts.close s p) g
-  unfolding Acts.close to putTail putRow
+  pub close-holds : placeAt (R .place) ≡ close → Holds (Acts.close s p) g
+  unfolding Acts.close
   close-holds e =
       by-test (λ t. Holds t g) (eqb (s .tail) p) (λ h. closed (eqb-true (s .tail) p h))
-      (λ h. go s g p v room 16 (mine s g p v room e))
+      (λ h. go s g p v room _ (mine s g p v room e))
     where
       closed : s .tail ≡ p → Holds (to (putTail s none) p 0) g
       closed h =
@@ -86,7 +90,7 @@ module _ (s : LockState) (g : Tickets) (p : ℕ) (v : Holds s g) (room : p < len
           let last : s .tail ≡ G .who i = v .books .last (λ z. there-some s g v p room (sym h ∙ z)) .1 i below in
           let known : g .latest p ≡ i = ap (g .latest) (sym h ∙ last) ∙ v .books .known i least (omega arith) in
           own-holds v (passed G (suc (G .gone)) (G .served) (G .linked) (G .releaser))
-          (own-put (λ r. withPlace r 0) (own-tail none (own-start s p room))) refl
+          (own-to (own-tail (own-start s p room) none) _)
           (record {
             low = omega arith;
             least = omega arith;

@@ -5,18 +5,19 @@ use mathlib.Core.Path.{_≡_, refl, sym, ap, subst, _∙_}
 use mathlib.Core.Bool.{Bool, true, false, cond}
 use mathlib.Core.Logic.{_≢_}
 use native.Mathlib.Omega.{arith}
-use lib.Dec.{eqb}
+use lib.Dec.{eqb, leb}
 use lib.ListN.{length}
 use borrow.Author.Tests.{eqb-true, not-true}
 use Rattle.lock.specs.declared.Row.{Row}
 use Rattle.lock.specs.declared.LockState.{LockState}
-use Rattle.choice.proofs.Tests.{clash, by-test}
+use Rattle.choice.proofs.Tests.{clash, and-left, by-test, by-either}
 use Rattle.choice.proofs.Numbers.{by-same}
-use Rattle.lock.specs.State.{isNone, isPlain, RP, withNext, withLocked, withPlace, row, putRow, putNext, putLocked, to}
+use Rattle.lock.specs.State.{isNone, isPlain, Released, Locked, RP, withNext, row, putNext, putLocked, to}
+use Rattle.lock.specs.Table.{placeAt, link, claim}
+use Rattle.lock.proofs.Ground.Facts.{Role, out, raw, wait, tok, rel, lag, facts, factsAt}
 use Rattle.lock.proofs.Order.Tickets.{Tickets}
-use Rattle.lock.proofs.Order.Writes.{both-start, both-own, both-near}
-use Rattle.lock.proofs.Order.Stages.{linking, claiming, stageAt}
-use Rattle.lock.proofs.Order.Roles.{Role, out, raw, wait, tok, rel, lag, joining, isSwapping, isQueued, isLifting, parked-out, parked-settled, queued-joined}
+use Rattle.lock.proofs.Ground.Writes.{both-start, both-to, near-locked, near-next}
+use Rattle.lock.proofs.Order.Roles.{isQueued, parked-out, parked-settled, queued-joined}
 use Rattle.lock.proofs.Order.Statement.{Ghost, upd, upd-same, upd-other, Queued, Raw, Wait, Tok, Duty, given-map, Fenced, Fit, FitRow, Holds}
 use Rattle.lock.proofs.Order.Carry.{passed, queued-map, Asks, pass, pass-fit, books-pop}
 use Rattle.lock.proofs.Order.Near.{same-join, before, roleRow, served-first, maker, queued-there, parked-tok-at}
@@ -74,15 +75,35 @@ module _ (s : LockState) (g : Tickets) (p : ℕ) (v : Holds s g) (room : p < len
             );
       }
 
-  pub link-holds : stageAt (R .place) ≡ linking → Holds (Acts.link s p) g
-  unfolding Acts.link to putNext putRow
-  link-holds e = by-edition (isPlain (s .edition))
+  pub link-holds : placeAt (R .place) ≡ link → Holds (Acts.link s p) g
+  unfolding Acts.link
+  link-holds e =
+      by-either (λ k. Holds (to (putNext s y p) p k) g) (isPlain (s .edition))
+      (own _ (free-fit refl refl refl waiting fenced (f .manned) (f .fencing)))
+      (own _
+      (record {
+        small = refl;
+        settles = refl;
+        duty = waiting;
+        joins = f .joins;
+        blank = tt;
+        fencing = f .fencing;
+        peeking = tt;
+        shut = λ k. refl;
+        fenced = fenced;
+        manned = f .manned;
+      }))
     where
-      f : Fit (s .edition) g G p linking (R .locked) (R .next) (R .pred) (R .succ) (R .nx) (R .guard)
+      f : Fit (s .edition) g G p (facts link) (R .locked) (R .next) (R .pred) (R .succ) (R .nx) (R .guard)
       f = mine s g p v room e
 
+      locked : R .locked ≡ Locked
+      locked = eqb-true (R .locked) Locked (and-left (eqb (R .locked) Locked) (leb (R .locked) Locked) (f .settles))
+
       d : Raw g G p (R .next)
-      d = f .duty
+      d =
+          subst (λ (l : ℕ). Duty ((facts link) .role l (isNone (R .nx))) g G p (R .next) (R .succ) (R .succ)) locked
+          (f .duty)
 
       prior : (i : ℕ) × (suc i ≡ g .latest p) × (G .gone ≤ i)
       prior = before (G .gone) (g .latest p) (d .later)
@@ -100,9 +121,6 @@ module _ (s : LockState) (g : Tickets) (p : ℕ) (v : Holds s g) (room : p < len
 
       apart : p ≢ y
       apart z = let a : g .latest p ≡ g .latest y = ap (g .latest) z in let b = next-join in omega arith
-
-      locked : R .locked ≡ 1
-      locked = eqb-true (R .locked) 1 (f .settles)
 
       waiting : Wait g H p (R .next)
       waiting =
@@ -131,9 +149,10 @@ module _ (s : LockState) (g : Tickets) (p : ℕ) (v : Holds s g) (room : p < len
       near : FitRow (s .edition) g H y (withNext (row s y) p)
       near =
           let r = row s y in
-          let st = stageAt (r .place) in
+          let m = r .place in
+          let st = factsAt m in
           let h = v .fits y in
-          let heir = cond (isLifting st) (r .nx) (r .succ) in
+          let heir = cond (st .lifts) (r .nx) (r .succ) in
           record {
             small = h .small;
             settles = h .settles;
@@ -143,7 +162,7 @@ module _ (s : LockState) (g : Tickets) (p : ℕ) (v : Holds s g) (room : p < len
                 (r .next) (r .succ) heir
                 (link-asks d y (r .next) heir (λ z. apart (sym z))) (h .duty));
             joins = h .joins;
-            blank = rw (not-true (isSwapping st) (queued-joined st (r .locked) (isNone (r .nx)) (h .small) (at .2))) tt;
+            blank = rw (not-true (st .swaps) (queued-joined m (r .locked) (isNone (r .nx)) (h .small) (at .2))) tt;
             fencing = h .fencing;
             peeking = h .peeking;
             shut = h .shut;
@@ -162,12 +181,11 @@ module _ (s : LockState) (g : Tickets) (p : ℕ) (v : Holds s g) (room : p < len
           }
 
       own :
-          (k : ℕ) → Fit (s .edition) g H p (stageAt k) 1 (R .next) (R .pred) (R .succ) (R .nx) (R .guard)
+          (k : ℕ) → Fit (s .edition) g H p (factsAt k) Locked (R .next) (R .pred) (R .succ) (R .nx) (R .guard)
           → Holds (to (putNext s y p) p k) g
       own k z =
           both-holds v H
-          (both-own (λ r. withPlace r k) (both-near (λ r. withNext r p)
-          (both-start s p y apart room (queued-there s g v y (at .2))))) refl
+          (both-to (near-next (both-start s p y apart room (queued-there s g v y (at .2))) _) _)
           (record {
             low = v .books .low;
             least = v .books .least;
@@ -177,60 +195,43 @@ module _ (s : LockState) (g : Tickets) (p : ℕ) (v : Holds s g) (room : p < len
             empty = v .books .empty;
             last = v .books .last;
           })
-          (subst (λ (l : ℕ). Fit (s .edition) g H p (stageAt k) l (R .next) (R .pred) (R .succ) (R .nx) (R .guard))
+          (subst (λ (l : ℕ). Fit (s .edition) g H p (factsAt k) l (R .next) (R .pred) (R .succ) (R .nx) (R .guard))
           (sym locked) z) near
           (λ q a b.
           pass-fit g G (G .gone) (G .served) (H .linked) (G .releaser) (omega arith) linked-more
           (link-asks d q ((row s q) .next)
-          (cond (isLifting (stageAt ((row s q) .place))) ((row s q) .nx) ((row s q) .succ)) a)
+          (cond ((factsAt ((row s q) .place)) .lifts) ((row s q) .nx) ((row s q) .succ)) a)
           (v .fits q))
 
-      fenced : G .fencer p ≢ 0 → Fenced (G .lagged p) (G .peeked p) 1 (R .next) (R .guard)
+      fenced : G .fencer p ≢ 0 → Fenced (G .lagged p) (G .peeked p) Locked (R .next) (R .guard)
       fenced z = clash (f .shut ((f .fenced z) .set)) refl
 
-      by-edition : (b : Bool) → Holds (to (putNext s y p) p (cond b 7 6)) g
-      by-edition true = own 7 (free-fit refl refl refl waiting fenced (f .manned) (f .fencing))
-      by-edition false =
-          own 6
-          (record {
-            small = refl;
-            settles = refl;
-            duty = waiting;
-            joins = f .joins;
-            blank = tt;
-            fencing = f .fencing;
-            peeking = tt;
-            shut = λ k. refl;
-            fenced = fenced;
-            manned = f .manned;
-          })
-
-  pub claim-holds : stageAt (R .place) ≡ claiming → Holds (Acts.claim s p) g
-  unfolding Acts.claim to putLocked putRow
+  pub claim-holds : placeAt (R .place) ≡ claim → Holds (Acts.claim s p) g
+  unfolding Acts.claim
   claim-holds e =
       by-test (λ t. Holds t g) (eqb ((row s (R .pred)) .locked) RP) claimed
-      (λ h. go s g p v room 7 (free-fit refl (f .small) (f .settles) (f .duty) (f .fenced) (f .manned) (f .fencing)))
+      (λ h. go s g p v room _ (free-fit refl (f .small) (f .settles) (f .duty) (f .fenced) (f .manned) (f .fencing)))
     where
-      f : Fit (s .edition) g G p claiming (R .locked) (R .next) (R .pred) (R .succ) (R .nx) (R .guard)
+      f : Fit (s .edition) g G p (facts claim) (R .locked) (R .next) (R .pred) (R .succ) (R .nx) (R .guard)
       f = mine s g p v room e
 
       y : ℕ
       y = R .pred
 
       -- p waits: otherwise it would be y, whose locked does not fit place 6
-      waiting : eqb ((row s y) .locked) 3 ≡ true → Wait g G p (R .next)
-      waiting h = by-locked (eqb (R .locked) 0) refl
+      waiting : eqb ((row s y) .locked) RP ≡ true → Wait g G p (R .next)
+      waiting h = by-locked (eqb (R .locked) Released) refl
         where
-          by-locked : (b : Bool) → eqb (R .locked) 0 ≡ b → Wait g G p (R .next)
+          by-locked : (b : Bool) → eqb (R .locked) Released ≡ b → Wait g G p (R .next)
           by-locked true z =
               let d : Tok g G p (R .next) = rw z at (f .duty) in
               let w = parked-tok-at s g v y h in
               let same : y ≡ p = same-join (w .0 .queued) (d .queued)
               (served-first s g v (w .0) .0 ∙ sym (served-first s g v d .0)) in
-              clash (subst (λ (q : ℕ). eqb ((row s q) .locked) 3 ≡ true) same h) (rw (eqb-true (R .locked) 0 z) refl)
+              clash (subst (λ (q : ℕ). eqb ((row s q) .locked) RP ≡ true) same h) (rw (eqb-true (R .locked) Released z) refl)
           by-locked false z = rw z at (f .duty)
 
-      claimed : eqb ((row s y) .locked) 3 ≡ true → Holds (to (putLocked s y 0) p 8) g
+      claimed : eqb ((row s y) .locked) RP ≡ true → Holds (to (putLocked s y Released) p 8) g
       claimed h =
           let d = waiting h in
           let w = parked-tok-at s g v y h in
@@ -247,10 +248,11 @@ module _ (s : LockState) (g : Tickets) (p : ℕ) (v : Holds s g) (room : p < len
           let mine-is : g .latest p ≡ suc (G .gone) = omega arith in
           let apart : p ≢ y = λ z. let a : g .latest p ≡ g .latest y = ap (g .latest) z in omega arith in
           let r = row s y in
-          let st = stageAt (r .place) in
+          let m = r .place in
+          let st = factsAt m in
           let fy = v .fits y in
           both-holds v (passed G (suc (G .gone)) (suc (G .served)) (G .linked) (G .releaser))
-          (both-own (λ r. withPlace r 8) (both-near (λ r. withLocked r 0) (both-start s p y apart room (w .2)))) refl
+          (both-to (near-locked (both-start s p y apart room (w .2)) _) _)
           (books-pop _ _ _ (v .books) (omega arith) (omega arith) (omega arith))
           (free-fit refl (f .small) (f .settles)
           (record {
@@ -260,9 +262,9 @@ module _ (s : LockState) (g : Tickets) (p : ℕ) (v : Holds s g) (room : p < len
           (f .fenced) (f .manned) (f .fencing))
           (record {
             small = refl;
-            settles = parked-settled st (w .1);
-            duty = rw (parked-out st (isNone (r .nx)) (w .1)) (λ a b c. omega arith);
-            joins = given-map (joining st) (λ b j i x k. j i x (omega arith)) (fy .joins);
+            settles = parked-settled m (w .1);
+            duty = rw (parked-out m (isNone (r .nx)) (w .1)) (λ a b c. omega arith);
+            joins = given-map (st .joining) (λ b j i x k. j i x (omega arith)) (fy .joins);
             blank = fy .blank;
             fencing = fy .fencing;
             peeking = fy .peeking;

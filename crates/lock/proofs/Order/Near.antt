@@ -19,11 +19,11 @@ use borrow.Author.Tests.{eqb-true}
 use Rattle.lock.specs.declared.Row.{Row}
 use Rattle.lock.specs.declared.LockState.{LockState}
 use Rattle.choice.proofs.Tests.{clash}
-use Rattle.lock.specs.State.{none, isNone, row}
+use Rattle.lock.specs.State.{none, isNone, RP, row}
+use Rattle.lock.proofs.Ground.Facts.{Role, out, raw, wait, tok, rel, lag, factsAt, settled}
 use Rattle.lock.proofs.Order.Tickets.{Tickets}
-use Rattle.lock.proofs.Order.Writes.{row-there}
-use Rattle.lock.proofs.Order.Stages.{stageAt}
-use Rattle.lock.proofs.Order.Roles.{Role, out, raw, wait, tok, rel, lag, role, settled, isQueued, isLifting, parked-tok}
+use Rattle.lock.proofs.Ground.Writes.{row-there, some-row}
+use Rattle.lock.proofs.Order.Roles.{role, isQueued, parked-tok}
 use Rattle.lock.proofs.Order.Statement.{Ghost, Queued, Raw, Wait, Tok, Rel, Duty, Fit, Holds}
 use Rattle.lock.proofs.Order.Carry.{Asks, owner}
 
@@ -37,7 +37,7 @@ before a (suc i) h = (i, refl, omega arith)
 
 -- the role of a row
 abbrev pub roleRow : Row → Role
-roleRow r = role (stageAt (r .place)) (r .locked) (isNone (r .nx))
+roleRow r = role (r .place) (r .locked) (isNone (r .nx))
 
 -- at the front, linked and not served: it waits
 waits :
@@ -56,11 +56,11 @@ module _ (s : LockState) (g : Tickets) (v : Holds s g) where
   pub duty-as :
       (q : ℕ) {ρ : Role} → roleRow (row s q) ≡ ρ
       → Duty ρ g (v .ghost) q ((row s q) .next) ((row s q) .succ)
-      (cond (isLifting (stageAt ((row s q) .place))) ((row s q) .nx) ((row s q) .succ))
+      (cond ((factsAt ((row s q) .place)) .lifts) ((row s q) .nx) ((row s q) .succ))
   duty-as q e =
       let r = row s q in
       subst (λ (ρ : Role). Duty ρ g (v .ghost) q (r .next) (r .succ)
-      (cond (isLifting (stageAt (r .place))) (r .nx) (r .succ))) e
+      (cond ((factsAt (r .place)) .lifts) (r .nx) (r .succ))) e
       ((v .fits q) .duty)
 
   -- who is served is at the front
@@ -99,7 +99,7 @@ module _ (s : LockState) (g : Tickets) (v : Holds s g) where
   queued-there y u = row-there s y (λ e. clash (subst (λ (r : Row). isQueued (roleRow r) ≡ true) e u) refl)
 
   pub there-some : (y : ℕ) → y < length (s .rows) → y ≢ none
-  there-some y h e = let b : length (s .rows) ≡ 16 = v .rooms in omega arith
+  there-some y h = some-row s y (v .rooms) h
 
   pub maker :
       (y i : ℕ) → y ≡ v .ghost .who i → v .ghost .gone ≤ i → i < g .count
@@ -109,7 +109,7 @@ module _ (s : LockState) (g : Tickets) (v : Holds s g) where
       let k : g .latest y ≡ i = ap (g .latest) e ∙ v .books .known i a b in
       let r = row s y in
       let w =
-      owner (roleRow r) y (r .next) (r .succ) (cond (isLifting (stageAt (r .place))) (r .nx) (r .succ)) (rw k a)
+      owner (roleRow r) y (r .next) (r .succ) (cond ((factsAt (r .place)) .lifts) (r .nx) (r .succ)) (rw k a)
       (rw k b)
       (ap (G .who) k ∙ sym e) ((v .fits y) .duty) in
       (k, w .0, w .1)
@@ -127,7 +127,7 @@ module _ (s : LockState) (g : Tickets) (v : Holds s g) where
       let w = maker y (G .gone) (d .front .made) (omega arith) (d .front .below) in
       let r = row s y in
       let z =
-      waits (roleRow r) y (r .next) (r .succ) (cond (isLifting (stageAt (r .place))) (r .nx) (r .succ)) (w .2) (w .0)
+      waits (roleRow r) y (r .next) (r .succ) (cond ((factsAt (r .place)) .lifts) (r .nx) (r .succ)) (w .2) (w .0)
       (d .front .done)
       (d .handing) ((v .fits y) .duty) in
       record {
@@ -141,17 +141,18 @@ module _ (s : LockState) (g : Tickets) (v : Holds s g) where
       }
 
   pub parked-tok-at :
-      (y : ℕ) → eqb ((row s y) .locked) 3 ≡ true
-      → Tok g (v .ghost) y ((row s y) .next) × (settled (stageAt ((row s y) .place)) 3 ≡ true) × (y < length (s .rows))
+      (y : ℕ) → eqb ((row s y) .locked) RP ≡ true
+      → Tok g (v .ghost) y ((row s y) .next) × (settled (factsAt ((row s y) .place)) RP ≡ true) × (y < length (s .rows))
   parked-tok-at y h =
       let G = v .ghost in
       let r = row s y in
-      let st = stageAt (r .place) in
-      let f : Fit (s .edition) g G y st 3 (r .next) (r .pred) (r .succ) (r .nx) (r .guard)
+      let m = r .place in
+      let st = factsAt m in
+      let f : Fit (s .edition) g G y st RP (r .next) (r .pred) (r .succ) (r .nx) (r .guard)
       = subst (λ (z : ℕ). Fit (s .edition) g G y st z (r .next) (r .pred) (r .succ) (r .nx) (r .guard))
-      (eqb-true (r .locked) 3 h) (v .fits y) in
-      let ρ : role st 3 (isNone (r .nx)) ≡ tok = parked-tok st (isNone (r .nx)) (f .settles) in (
-        subst (λ (z : Role). Duty z g G y (r .next) (r .succ) (cond (isLifting st) (r .nx) (r .succ))) ρ (f .duty),
+      (eqb-true (r .locked) RP h) (v .fits y) in
+      let ρ : role m RP (isNone (r .nx)) ≡ tok = parked-tok m (isNone (r .nx)) (f .settles) in (
+        subst (λ (z : Role). Duty z g G y (r .next) (r .succ) (cond (st .lifts) (r .nx) (r .succ))) ρ (f .duty),
         f .settles,
-        row-there s y (λ e. clash (subst (λ (r : Row). eqb (r .locked) 3 ≡ true) e h) refl),
+        row-there s y (λ e. clash (subst (λ (r : Row). eqb (r .locked) RP ≡ true) e h) refl),
       )

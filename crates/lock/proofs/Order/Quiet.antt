@@ -1,7 +1,7 @@
 -- The steps that move no ghost: they write only the processor's own row, and what the invariant says of it stays what
 -- it was or follows from the test that the step made.
 use Prim.Native.Nat.{ℕ, suc, _<_}
-use mathlib.Core.Path.{_≡_, refl, subst}
+use mathlib.Core.Path.{_≡_, refl, sym, subst}
 use mathlib.Core.Bool.{Bool, true, false, _&&_, _||_, cond}
 use mathlib.Core.Logic.{_≢_}
 use lib.Dec.{eqb}
@@ -10,11 +10,11 @@ use borrow.Author.Tests.{eqb-true}
 use Rattle.lock.specs.declared.Row.{Row}
 use Rattle.lock.specs.declared.LockState.{LockState}
 use Rattle.choice.proofs.Tests.{clash, and-right, left-of, by-test}
-use Rattle.lock.specs.State.{none, isNone, isPlain, isDrawn, isGuarded, withNext, withLocked, withFlag, withPlace, withNx, row, putRow, putNext, putLocked, putFlag, to, putNx}
+use Rattle.lock.specs.State.{none, isNone, isPlain, isDrawn, isGuarded, Released, Locked, Preempted, RP, row, putLocked, to, putNx}
+use Rattle.lock.specs.Table.{Place, placeAt, rest, gate, clear, arm, spin, settle, inside, poll, service, back, regain}
+use Rattle.lock.proofs.Ground.Facts.{Role, facts, factsAt, back-role}
 use Rattle.lock.proofs.Order.Tickets.{Tickets, isOrdered}
-use Rattle.lock.proofs.Order.Writes.{own-start, own-put}
-use Rattle.lock.proofs.Order.Stages.{Stage, resting, clearing, arming, spinning, settling, holding, serving, regaining, fencing, peeking, stageAt}
-use Rattle.lock.proofs.Order.Roles.{Role, out, wait, tok}
+use Rattle.lock.proofs.Ground.Writes.{own-start, own-flag, own-locked, own-next, own-nx, own-to}
 use Rattle.lock.proofs.Order.Statement.{Ghost, Away, Lag, Duty, Fencing, Fit, Holds}
 use Rattle.lock.proofs.Order.Build.{quiet, free-fit, relock}
 use Rattle.lock.specs.Acts as Acts
@@ -35,12 +35,6 @@ clear-guard : {e : ℕ} {A : Type 0} (b : Bool) → (b ≡ true → (e ≢ 0) ×
 clear-guard true m e = absurd (m refl .0 e)
 clear-guard false m e = refl
 
--- with the locked of neither 1 nor 2 the service's roles are the regain's
-back-role : (o x : Bool) → o || x ≡ true → cond o out (cond x tok wait) ≡ cond o out tok
-back-role true x e = refl
-back-role false true e = refl
-back-role false false e = clash e refl
-
 module _ (s : LockState) (g : Tickets) (p : ℕ) (v : Holds s g) (room : p < length (s .rows)) where
   abbrev pub R : Row
   R = row s p
@@ -48,32 +42,31 @@ module _ (s : LockState) (g : Tickets) (p : ℕ) (v : Holds s g) (room : p < len
   abbrev pub G : Ghost
   G = v .ghost
 
-  -- what is said of the own row, once the stage is known
+  -- what is said of the own row, once the place is known
   pub mine :
-      {a : Stage} → stageAt (R .place) ≡ a
-      → Fit (s .edition) g G p a (R .locked) (R .next) (R .pred) (R .succ) (R .nx) (R .guard)
-  mine e = rw e at (v .fits p)
+      {a : Place} → placeAt (R .place) ≡ a
+      → Fit (s .edition) g G p (facts a) (R .locked) (R .next) (R .pred) (R .succ) (R .nx) (R .guard)
+  mine e =
+      subst (λ (k : Place). Fit (s .edition) g G p (facts k) (R .locked) (R .next) (R .pred) (R .succ) (R .nx) (R .guard)) e
+      (v .fits p)
 
   -- a step to another place, own cells as they are
   pub go :
-      (k : ℕ) → Fit (s .edition) g G p (stageAt k) (R .locked) (R .next) (R .pred) (R .succ) (R .nx) (R .guard)
+      (k : ℕ) → Fit (s .edition) g G p (factsAt k) (R .locked) (R .next) (R .pred) (R .succ) (R .nx) (R .guard)
       → Holds (to s p k) g
-  unfolding to putRow
-  go k f = quiet v (own-put (λ r. withPlace r k) (own-start s p room)) refl refl f
+  go k f = quiet v (own-to (own-start s p room) _) f
 
   -- the same with a new locked
   go-locked :
-      (l k : ℕ) → Fit (s .edition) g G p (stageAt k) l (R .next) (R .pred) (R .succ) (R .nx) (R .guard)
+      (l k : ℕ) → Fit (s .edition) g G p (factsAt k) l (R .next) (R .pred) (R .succ) (R .nx) (R .guard)
       → Holds (to (putLocked s p l) p k) g
-  unfolding to putLocked putRow
-  go-locked l k f = quiet v (own-put (λ r. withPlace r k)
-      (own-put (λ r. withLocked r l) (own-start s p room))) refl refl f
+  go-locked l k f = quiet v (own-to (own-locked (own-start s p room) _) _) f
 
   -- at 2 with the guard clear
   open-fit :
-      R .guard ≡ false → eqb (R .locked) 0 ≡ true → Away g G p → ((x : ℕ) → G .fencer x ≢ suc p)
-      → Fit (s .edition) g G p clearing (R .locked) (R .next) (R .pred) (R .succ) (R .nx) (R .guard)
-  open-fit clear free away idle =
+      R .guard ≡ false → eqb (R .locked) Released ≡ true → Away g G p → ((x : ℕ) → G .fencer x ≢ suc p)
+      → Fit (s .edition) g G p (facts clear) (R .locked) (R .next) (R .pred) (R .succ) (R .nx) (R .guard)
+  open-fit unset free away idle =
       record {
         small = (v .fits p) .small;
         settles = free;
@@ -82,42 +75,39 @@ module _ (s : LockState) (g : Tickets) (p : ℕ) (v : Holds s g) (room : p < len
         blank = tt;
         fencing = idle;
         peeking = tt;
-        shut = λ k. clash k clear;
+        shut = λ k. clash k unset;
         fenced = (v .fits p) .fenced;
         manned = (v .fits p) .manned;
       }
 
   -- to the queue: out of it, and the gate is there or the guard is clear
-  to-queue : eqb (R .locked) 0 ≡ true → Away g G p → ((x : ℕ) → G .fencer x ≢ suc p) → Holds (Acts.toQueue s p) g
+  to-queue : eqb (R .locked) Released ≡ true → Away g G p → ((x : ℕ) → G .fencer x ≢ suc p) → Holds (Acts.toQueue s p) g
   unfolding Acts.toQueue
-  to-queue free away idle = by-gate (isGuarded (s .edition)) refl
-    where
-      f : Fit (s .edition) g G p (stageAt (R .place)) (R .locked) (R .next) (R .pred) (R .succ) (R .nx) (R .guard)
-      f = v .fits p
+  to-queue free away idle =
+      let f = v .fits p in
+      by-test (λ k. Holds (to s p k) g) (isGuarded (s .edition))
+      (λ h. go _ (free-fit refl (f .small) free away (f .fenced) (f .manned) idle))
+      (λ h.
+      go _ (open-fit (clear-guard (R .guard) (f .manned) (ordered-plain (s .edition) (v .ordered) h)) free away idle))
 
-      by-gate : (b : Bool) → isGuarded (s .edition) ≡ b → Holds (to s p (cond b 1 2)) g
-      by-gate true h = go 1 (free-fit refl (f .small) free away (f .fenced) (f .manned) idle)
-      by-gate false h = go 2 (open-fit
-          (clear-guard (R .guard) (f .manned) (ordered-plain (s .edition) (v .ordered) h)) free away idle)
-
-  pub rest-holds : stageAt (R .place) ≡ resting → Holds (Acts.rest s p) g
-  unfolding Acts.rest putFlag putRow
+  pub rest-holds : placeAt (R .place) ≡ rest → Holds (Acts.rest s p) g
+  unfolding Acts.rest
   rest-holds e =
       by-test (λ t. Holds t g) (R .flag)
-      (λ b. quiet v (own-put (λ r. withFlag r false) (own-start s p room)) refl refl (v .fits p))
+      (λ b. quiet v (own-flag (own-start s p room) _) (v .fits p))
       (λ b. to-queue ((mine e) .settles) ((mine e) .duty) ((mine e) .fencing))
 
-  pub gate-holds : stageAt (R .place) ≡ resting → Holds (Acts.gate s p) g
+  pub gate-holds : placeAt (R .place) ≡ gate → Holds (Acts.gate s p) g
   unfolding Acts.gate
   gate-holds e =
       by-test (λ t. Holds t g) (R .guard) (λ b. v)
-      (λ b. go 2 (open-fit b ((mine e) .settles) ((mine e) .duty) ((mine e) .fencing)))
+      (λ b. go _ (open-fit b ((mine e) .settles) ((mine e) .duty) ((mine e) .fencing)))
 
-  pub clear-holds : stageAt (R .place) ≡ clearing → Holds (Acts.clear s p) g
-  unfolding Acts.clear to putNext putRow
+  pub clear-holds : placeAt (R .place) ≡ clear → Holds (Acts.clear s p) g
+  unfolding Acts.clear
   clear-holds e =
       let f = mine e in
-      quiet v (own-put (λ r. withPlace r 3) (own-put (λ r. withNext r none) (own-start s p room))) refl refl
+      quiet v (own-to (own-next (own-start s p room) _) _)
       (record {
         small = f .small;
         settles = f .settles;
@@ -131,11 +121,11 @@ module _ (s : LockState) (g : Tickets) (p : ℕ) (v : Holds s g) (room : p < len
         manned = f .manned;
       })
 
-  pub arm-holds : stageAt (R .place) ≡ arming → Holds (Acts.arm s p) g
+  pub arm-holds : placeAt (R .place) ≡ arm → Holds (Acts.arm s p) g
   unfolding Acts.arm
   arm-holds e =
       let f = mine e in
-      go-locked 1 5
+      go-locked _ _
       (record {
         small = refl;
         settles = refl;
@@ -149,87 +139,92 @@ module _ (s : LockState) (g : Tickets) (p : ℕ) (v : Holds s g) (room : p < len
         manned = f .manned;
       })
 
-  pub spin-holds : stageAt (R .place) ≡ spinning → Holds (Acts.spin s p) g
+  pub spin-holds : placeAt (R .place) ≡ spin → Holds (Acts.spin s p) g
   unfolding Acts.spin
   spin-holds e =
       let f = mine e in
-      by-test (λ t. Holds t g) (eqb (R .locked) 0)
-      (λ b. go 9 (free-fit refl (f .small) b (rw b at (f .duty)) (f .fenced) (f .manned) (f .fencing)))
-      (λ b. by-test (λ t. Holds t g) (isPlain (s .edition)) (λ c. v) (λ c. go 10 f))
+      by-test (λ t. Holds t g) (eqb (R .locked) Released)
+      (λ b. go _ (free-fit refl (f .small) b (rw b at (f .duty)) (f .fenced) (f .manned) (f .fencing)))
+      (λ b. by-test (λ t. Holds t g) (isPlain (s .edition)) (λ c. v) (λ c. go _ f))
 
-  pub settle-holds : stageAt (R .place) ≡ settling → Holds (Acts.settle s p) g
+  pub settle-holds : placeAt (R .place) ≡ settle → Holds (Acts.settle s p) g
   unfolding Acts.settle
   settle-holds e =
       let f = mine e in
-      go-locked 0 9 (free-fit refl refl refl (f .duty) (λ d. relock (λ k. refl) (f .fenced d)) (f .manned) (f .fencing))
+      go-locked _ _ (free-fit refl refl refl (f .duty) (λ d. relock (λ k. refl) (f .fenced d)) (f .manned) (f .fencing))
 
-  pub inside-holds : stageAt (R .place) ≡ holding → Holds (Acts.inside s p) g
+  pub inside-holds : placeAt (R .place) ≡ inside → Holds (Acts.inside s p) g
   unfolding Acts.inside
-  inside-holds e = go 14 (mine e)
+  inside-holds e = go _ (mine e)
 
   -- the own row with its locked known
   locked-as :
-      {a : Stage} {l : ℕ} → stageAt (R .place) ≡ a → eqb (R .locked) l ≡ true
-      → Fit (s .edition) g G p a l (R .next) (R .pred) (R .succ) (R .nx) (R .guard)
+      {a : Place} {l : ℕ} → placeAt (R .place) ≡ a → eqb (R .locked) l ≡ true
+      → Fit (s .edition) g G p (facts a) l (R .next) (R .pred) (R .succ) (R .nx) (R .guard)
   locked-as {a} {l} e h =
-      subst (λ (z : ℕ). Fit (s .edition) g G p a z (R .next) (R .pred) (R .succ) (R .nx) (R .guard))
+      subst (λ (z : ℕ). Fit (s .edition) g G p (facts a) z (R .next) (R .pred) (R .succ) (R .nx) (R .guard))
       (eqb-true (R .locked) l h) (mine e)
 
-  pub poll-holds : stageAt (R .place) ≡ spinning → Holds (Acts.poll s p) g
-  unfolding Acts.poll to putFlag putLocked putRow
+  pub poll-holds : placeAt (R .place) ≡ poll → Holds (Acts.poll s p) g
+  unfolding Acts.poll
   poll-holds e =
-      by-test (λ t. Holds t g) (R .flag && eqb (R .locked) 1)
+      by-test (λ t. Holds t g) (R .flag && eqb (R .locked) Locked)
       (λ b.
-      let f = locked-as {l = 1} e (and-right (R .flag) (eqb (R .locked) 1) b) in
-      quiet v (own-put (λ r. withPlace r 11)
-      (own-put (λ r. withFlag r false) (own-put (λ r. withLocked r 2) (own-start s p room)))) refl refl
+      let f = locked-as {l = Locked} e (and-right (R .flag) (eqb (R .locked) Locked) b) in
+      quiet v (own-to (own-flag (own-locked (own-start s p room) _) _) _)
       (free-fit refl refl refl (f .duty) (λ d. relock (λ k. clash k refl) (f .fenced d)) (f .manned) (f .fencing)))
-      (λ b. go 7 (mine e))
+      (λ b. go _ (mine e))
 
-  pub service-holds : stageAt (R .place) ≡ serving → Holds (Acts.service s p) g
+  pub service-holds : placeAt (R .place) ≡ service → Holds (Acts.service s p) g
   unfolding Acts.service
-  service-holds e = go 12 (mine e)
+  service-holds e = go _ (mine e)
 
-  pub back-holds : stageAt (R .place) ≡ serving → Holds (Acts.back s p) g
+  pub back-holds : placeAt (R .place) ≡ back → Holds (Acts.back s p) g
   unfolding Acts.back
   back-holds e =
-      by-test (λ t. Holds t g) (eqb (R .locked) 2)
+      by-test (λ t. Holds t g) (eqb (R .locked) Preempted)
       (λ b.
-      let f = locked-as {l = 2} e b in
-      go-locked 1 7 (free-fit refl refl refl (f .duty) (λ d. relock (λ k. clash k refl) (f .fenced d)) (f .manned)
+      let f = locked-as {l = Preempted} e b in
+      go-locked _ _ (free-fit refl refl refl (f .duty) (λ d. relock (λ k. clash k refl) (f .fenced d)) (f .manned)
       (f .fencing)))
       (λ b.
       let f = mine e in
-      let o = eqb (R .locked) 0 in
-      let x = eqb (R .locked) 3 in
-      let left : o || x ≡ true = left-of (o || x) (eqb (R .locked) 2) (f .settles) b in
+      let o = eqb (R .locked) Released in
+      let x = eqb (R .locked) RP in
+      let left : o || x ≡ true = left-of (o || x) (eqb (R .locked) Preempted) (f .settles) b in
       go 13
       (free-fit refl (f .small) left
       (subst (λ (z : Role). Duty z g G p (R .next) (R .succ) (R .succ)) (back-role o x left) (f .duty)) (f .fenced)
       (f .manned) (f .fencing)))
 
-  pub regain-holds : stageAt (R .place) ≡ regaining → Holds (Acts.regain s p) g
+  pub regain-holds : placeAt (R .place) ≡ regain → Holds (Acts.regain s p) g
   unfolding Acts.regain
   regain-holds e =
-      by-test (λ t. Holds t g) (eqb (R .locked) 3)
+      by-test (λ t. Holds t g) (eqb (R .locked) RP)
       (λ b.
-      let f = locked-as {l = 3} e b in
-      go-locked 0 7 (free-fit refl refl refl (f .duty) (λ d. relock (λ k. refl) (f .fenced d)) (f .manned)
+      let f = locked-as {l = RP} e b in
+      go-locked _ _ (free-fit refl refl refl (f .duty) (λ d. relock (λ k. refl) (f .fenced d)) (f .manned)
       (f .fencing)))
       (λ b.
       let f = mine e in
-      let o : eqb (R .locked) 0 ≡ true = left-of (eqb (R .locked) 0) (eqb (R .locked) 3) (f .settles) b in
+      let o : eqb (R .locked) Released ≡ true = left-of (eqb (R .locked) Released) (eqb (R .locked) RP) (f .settles) b in
       to-queue o (rw o at (f .duty)) (f .fencing))
+
+  -- "to 22": an ordered edition is not the drawn one
+  pub to-lift : (t : LockState) → t .edition ≡ s .edition → Holds (to t p 22) g → Holds (Acts.toLift t p) g
+  unfolding Acts.toLift
+  to-lift t e h =
+      by-test (λ x. Holds x g) (isDrawn (t .edition))
+      (λ b. clash b (ordered-drawn (t .edition) (subst (λ (z : ℕ). isOrdered z ≡ true) (sym e) (v .ordered)))) (λ b. h)
 
   -- 20 and 21 without success: nx is none, and p lags on
   pub lag-on :
-      Lag g G p (R .succ) → eqb (R .locked) 0 ≡ true → Fencing true (G .fencer) p (R .succ) → (x : ℕ) → isNone x ≡ true
+      Lag g G p (R .succ) → eqb (R .locked) Released ≡ true → Fencing true (G .fencer) p (R .succ) → (x : ℕ) → isNone x ≡ true
       → Holds (Acts.toLift (putNx s p x) p) g
-  unfolding Acts.toLift to putNx putRow
   lag-on d free fe x none =
-      by-test (λ t. Holds t g) (isDrawn (s .edition)) (λ b. clash b (ordered-drawn (s .edition) (v .ordered)))
-      (λ b.
-      quiet v (own-put (λ r. withPlace r 22) (own-put (λ r. withNx r x) (own-start s p room))) refl refl
+      let o = own-nx (own-start s p room) x in
+      to-lift (putNx s p x) (o .edition)
+      (quiet v (own-to o _)
       (record {
         small = (v .fits p) .small;
         settles = free;

@@ -17,9 +17,8 @@ use borrow.Author.Tests.{eqb-true, eqb-false, eq-eqb, ne-eqb}
 use Rattle.lock.specs.declared.Row.{Row}
 use Rattle.lock.specs.declared.LockState.{LockState}
 use Rattle.lock.specs.State.{processors, none, isNone, row}
+use Rattle.lock.proofs.Ground.Facts.{Role, out, raw, wait, tok, rel, lag, Facts, factsAt, isLeft, settled}
 use Rattle.lock.proofs.Order.Tickets.{Tickets, isOrdered}
-use Rattle.lock.proofs.Order.Stages.{Stage, stageAt}
-use Rattle.lock.proofs.Order.Roles.{Role, out, raw, wait, tok, rel, lag, role, settled, joining, isSwapping, fences, isTaking, isOpen, isLifting, isLeft}
 
 pub record Ghost : Type 0 where
   -- how many joins have gone from the front of the queue
@@ -146,29 +145,29 @@ pub record Fenced (lagged : Bool) (peeked l next : ℕ) (guard : Bool) : Type 0 
   pub still : lagged ≡ true → isLeft l ≡ true
   pub kept : peeked ≢ none → next ≡ peeked
 
--- e is the edition, q the processor, then its row's stage and cells; the heir is nx at 22, otherwise succ
-pub record Fit (e : ℕ) (g : Tickets) (G : Ghost) (q : ℕ) (st : Stage) (l next pred succ nx : ℕ) (guard : Bool) : Type 0 where
+-- e is the edition, q the processor, then the facts of its place and its row's cells; the heir is nx at 22, otherwise succ
+pub record Fit (e : ℕ) (g : Tickets) (G : Ghost) (q : ℕ) (st : Facts) (l next pred succ nx : ℕ) (guard : Bool) : Type 0 where
   -- locked by place
   pub small : leb l 3 ≡ true
   pub settles : settled st l ≡ true
   -- the queue, by role
-  pub duty : Duty (role st l (isNone nx)) g G q next succ (cond (isLifting st) nx succ)
+  pub duty : Duty (st .role l (isNone nx)) g G q next succ (cond (st .lifts) nx succ)
   -- 4 to 6: the pred made the join before
-  pub joins : given (joining st) ((i : ℕ) → suc i ≡ g .latest q → G .gone ≤ i → pred ≡ G .who i)
+  pub joins : given (st .joining) ((i : ℕ) → suc i ≡ g .latest q → G .gone ≤ i → pred ≡ G .who i)
   -- 3: the next is none
-  pub blank : given (isSwapping st) (next ≡ none)
+  pub blank : given (st .swaps) (next ≡ none)
   -- 19 to 22: the succ is fenced
-  pub fencing : Fencing (fences st) (G .fencer) q succ
+  pub fencing : Fencing (st .fences) (G .fencer) q succ
   -- 21: nx is what was peeked at
-  pub peeking : given (isTaking st) ((G .peeked succ ≡ nx) × (nx ≢ none))
+  pub peeking : given (st .takes) ((G .peeked succ ≡ nx) × (nx ≢ none))
   -- a set guard: not at 2 to 5, not in the plain edition, and somebody fences the row
-  pub shut : guard ≡ true → isOpen st ≡ true
+  pub shut : guard ≡ true → (st .opens) ≡ true
   pub manned : guard ≡ true → (e ≢ 0) × (G .fencer q ≢ 0)
   -- what a fence on this row keeps
   pub fenced : G .fencer q ≢ 0 → Fenced (G .lagged q) (G .peeked q) l next guard
 
 abbrev pub FitRow : ℕ → Tickets → Ghost → ℕ → Row → Type 0
-FitRow e g G q r = Fit e g G q (stageAt (r .place)) (r .locked) (r .next) (r .pred) (r .succ) (r .nx) (r .guard)
+FitRow e g G q r = Fit e g G q (factsAt (r .place)) (r .locked) (r .next) (r .pred) (r .succ) (r .nx) (r .guard)
 
 pub record Holds (s : LockState) (g : Tickets) : Type 0 where
   pub rooms : length (s .rows) ≡ processors

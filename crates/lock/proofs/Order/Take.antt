@@ -12,17 +12,17 @@ use Rattle.lock.specs.declared.Row.{Row}
 use Rattle.lock.specs.declared.LockState.{LockState}
 use Rattle.choice.proofs.Tests.{clash, by-test}
 use Rattle.choice.proofs.Numbers.{by-same}
-use Rattle.lock.specs.State.{none, isNone, isDrawn, Released, RP, withLocked, withGuard, withPlace, withSucc, withNx, row, putRow, putLocked, putGuard, to, putSucc, putNx}
-use Rattle.lock.proofs.Rows.{row-put-other}
+use Rattle.lock.specs.State.{none, isNone, Released, RP, withGuard, row, putLocked, putGuard, to, putSucc}
+use Rattle.lock.specs.Table.{placeAt, peek, take, lift}
+use Rattle.lock.proofs.Ground.Facts.{lag, facts, factsAt}
 use Rattle.lock.proofs.Order.Tickets.{Tickets}
-use Rattle.lock.proofs.Order.Writes.{own-start, own-put, Both, both-start, both-own, both-near, row-there}
-use Rattle.lock.proofs.Order.Stages.{peeking, taking, lifting, stageAt}
-use Rattle.lock.proofs.Order.Roles.{lag, joining, fences, isOpen, isLifting, parked-out, parked-settled, taking-lag}
-use Rattle.lock.proofs.Order.Statement.{Ghost, upd, upd-same, upd-other, upd-back, Books, Linked, Rel, Lag, given-map, Fencing, Fenced, Fit, FitRow, Holds}
+use Rattle.lock.proofs.Ground.Writes.{own-start, Both, both-start, row-there, both-succ, both-to, near-guard, near-locked, own-nx, own-to, locked-edition}
+use Rattle.lock.proofs.Order.Roles.{parked-out, parked-settled, taking-lag}
+use Rattle.lock.proofs.Order.Statement.{Ghost, upd, upd-same, upd-other, upd-back, Linked, Rel, Lag, given-map, Fencing, Fenced, Fit, FitRow, Holds}
 use Rattle.lock.proofs.Order.Carry.{passed, refenced, refence-books, pass-fit, fenced-same, manned-same, fencing-map, refence, refence-fit, books-pop}
 use Rattle.lock.proofs.Order.Near.{duty-as, served-first, pop-asks, parked-tok-at}
 use Rattle.lock.proofs.Order.Build.{own-holds, both-holds, free-fit, relock}
-use Rattle.lock.proofs.Order.Quiet.{ordered-drawn, mine, lag-on}
+use Rattle.lock.proofs.Order.Quiet.{mine, to-lift, lag-on}
 use Rattle.lock.specs.Acts as Acts
 
 module _ (s : LockState) (g : Tickets) (p : ℕ) (v : Holds s g) (room : p < length (s .rows)) where
@@ -42,13 +42,13 @@ module _ (s : LockState) (g : Tickets) (p : ℕ) (v : Holds s g) (room : p < len
   not-mine : G .fencer y ≡ suc p → (q x : ℕ) → q ≢ p → G .fencer x ≡ suc q → x ≢ y
   not-mine on q x a k o = a (let z : suc q ≡ suc p = sym k ∙ ap (G .fencer) o ∙ on in omega arith)
 
-  pub peek-holds : stageAt (R .place) ≡ peeking → Holds (Acts.peek s p) g
-  unfolding Acts.peek to putNx putRow
+  pub peek-holds : placeAt (R .place) ≡ peek → Holds (Acts.peek s p) g
+  unfolding Acts.peek
   peek-holds e =
       by-test (λ t. Holds t g) (isNone (Y .next)) (λ h. lag-on s g p v room d (f .settles) on (Y .next) h)
       (λ h.
       own-holds v (refenced G (G .fencer) (G .lagged) Z)
-      (own-put (λ r. withPlace r 21) (own-put (λ r. withNx r (Y .next)) (own-start s p room))) refl
+      (own-to (own-nx (own-start s p room) (Y .next)) 21)
       (refence-books (G .fencer) (G .lagged) Z (v .books))
       (record {
         small = f .small;
@@ -70,11 +70,11 @@ module _ (s : LockState) (g : Tickets) (p : ℕ) (v : Holds s g) (room : p < len
       refence-fit g G (G .fencer) (G .lagged) Z (λ k. (k .fenced, k .parked)) (λ w. w)
       (λ k w.
       let la : Lag g G q (r .succ) = duty-as s g v q
-      (taking-lag (stageAt (r .place)) (r .locked) (isNone (r .nx)) (fq .small) k) in
+      (taking-lag (r .place) (r .locked) (isNone (r .nx)) (fq .small) k) in
       (upd-other (G .peeked) y (Y .next) (r .succ) (not-mine (on .0) q (r .succ) a (la .fenced)) ∙ w .0, w .1))
       (fq .shut) (peeked q) (fq .manned) fq))
     where
-      f : Fit (s .edition) g G p peeking (R .locked) (R .next) (R .pred) (R .succ) (R .nx) (R .guard)
+      f : Fit (s .edition) g G p (facts peek) (R .locked) (R .next) (R .pred) (R .succ) (R .nx) (R .guard)
       f = mine s g p v room e
 
       d : Lag g G p y
@@ -104,8 +104,7 @@ module _ (s : LockState) (g : Tickets) (p : ℕ) (v : Holds s g) (room : p < len
           (upd-other (G .peeked) y (Y .next) q b) ((v .fits q) .fenced))
 
   -- the lock is taken back: y goes from the front, p hands on to y's next
-  taken : (e : stageAt (R .place) ≡ taking) → eqb (Y .locked) RP ≡ true → Holds (to (putLocked s y Released) p 22) g
-  unfolding to putLocked putRow
+  taken : (e : placeAt (R .place) ≡ take) → eqb (Y .locked) RP ≡ true → Holds (to (putLocked s y Released) p 22) g
   taken e h =
       let f = mine s g p v room e in
       let d = f .duty in
@@ -115,7 +114,8 @@ module _ (s : LockState) (g : Tickets) (p : ℕ) (v : Holds s g) (room : p < len
       let front = served-first s g v (w .0) .0 in
       let serve = served-first s g v (w .0) .1 in
       let fy = v .fits y in
-      let st = stageAt (Y .place) in
+      let m = Y .place in
+      let st = factsAt m in
       let fenced : G .fencer y ≢ 0 = λ n. let z : suc p ≡ 0 = sym (on .0) ∙ n in omega arith in
       let next : Y .next ≡ R .nx = (fy .fenced fenced) .kept (λ n. saw .1 (sym (saw .0) ∙ n)) ∙ saw .0 in
       let c : Linked g G (suc (g .latest y)) (Y .next) = w .0 .queued .chain (λ n. saw .1 (sym next ∙ n)) in
@@ -124,8 +124,7 @@ module _ (s : LockState) (g : Tickets) (p : ℕ) (v : Holds s g) (room : p < len
       let below = c .below in
       let some : isNone (R .nx) ≡ false = ne-eqb (R .nx) none (saw .1) in
       both-holds v (passed G (suc (G .gone)) (G .served) (G .linked) p)
-      (both-own (λ r. withPlace r 22)
-      (both-near (λ r. withLocked r Released) (both-start s p y (λ z. on .1 (sym z)) room (w .2)))) refl
+      (both-to (near-locked (both-start s p y (λ z. on .1 (sym z)) room (w .2)) _) _)
       (books-pop _ _ _ (v .books) (omega arith) (omega arith) (omega arith))
       (record {
         small = f .small;
@@ -148,9 +147,9 @@ module _ (s : LockState) (g : Tickets) (p : ℕ) (v : Holds s g) (room : p < len
       })
       (record {
         small = refl;
-        settles = parked-settled st (w .1);
-        duty = rw (parked-out st (isNone (Y .nx)) (w .1)) (λ a b k. omega arith);
-        joins = given-map (joining st) (λ b j i x k. j i x (omega arith)) (fy .joins);
+        settles = parked-settled m (w .1);
+        duty = rw (parked-out m (isNone (Y .nx)) (w .1)) (λ a b k. omega arith);
+        joins = given-map (st .joining) (λ b j i x k. j i x (omega arith)) (fy .joins);
         blank = fy .blank;
         fencing = fy .fencing;
         peeking = fy .peeking;
@@ -162,29 +161,24 @@ module _ (s : LockState) (g : Tickets) (p : ℕ) (v : Holds s g) (room : p < len
       pass-fit g G (suc (G .gone)) (G .served) (G .linked) p (omega arith) (λ i z. z)
       (pop-asks s g v y (Y .next) p (w .0) (λ q next k z. clash (ap (G .linked) z ∙ done) (k .unlinked)) q
       ((row s q) .next)
-      (cond (isLifting (stageAt ((row s q) .place))) ((row s q) .nx) ((row s q) .succ)) b)
+      (cond ((factsAt ((row s q) .place)) .lifts) ((row s q) .nx) ((row s q) .succ)) b)
       (v .fits q))
 
-  pub take-holds : stageAt (R .place) ≡ taking → Holds (Acts.take s p) g
-  unfolding Acts.take Acts.toLift putLocked putRow
+  pub take-holds : placeAt (R .place) ≡ take → Holds (Acts.take s p) g
+  unfolding Acts.take
   take-holds e =
       let f = mine s g p v room e in
       by-test (λ t. Holds t g) (eqb (Y .locked) RP)
-      (λ h.
-      by-test (λ t. Holds t g) (isDrawn (s .edition)) (λ b. clash b (ordered-drawn (s .edition) (v .ordered)))
-      (λ b. taken e h))
+      (λ h. to-lift s g p v room (putLocked s y Released) (locked-edition s y Released) (taken e h))
       (λ h. lag-on s g p v room (f .duty) (f .settles) (f .fencing) none refl)
 
   -- y's guard is clear again: no other fences it
   lifted :
       {t : LockState} {r : Row} → Fencing true (G .fencer) p y → Both s t p y r (withGuard Y false)
-      → t .edition ≡ s .edition
-      → t .tail ≡ s .tail → FitRow (s .edition) g (refenced G (upd (G .fencer) y 0) (G .lagged) (G .peeked)) p r
+      → FitRow (s .edition) g (refenced G (upd (G .fencer) y 0) (G .lagged) (G .peeked)) p r
       → Holds t g
-  lifted {t} on o ed tl own =
-      both-holds v (refenced G F (G .lagged) (G .peeked)) o ed
-      (subst (λ (z : ℕ). Books g (refenced G F (G .lagged) (G .peeked)) z) (sym tl)
-      (refence-books F (G .lagged) (G .peeked) (v .books))) own
+  lifted on o own =
+      both-holds v (refenced G F (G .lagged) (G .peeked)) o (refence-books F (G .lagged) (G .peeked) (v .books)) own
       (other y (on .1) false (λ k. clash k refl) (λ k. absurd (k (upd-same (G .fencer) y 0))) (λ k. clash k refl))
       (λ q a b.
       other q a ((row s q) .guard) ((v .fits q) .shut)
@@ -197,7 +191,7 @@ module _ (s : LockState) (g : Tickets) (p : ℕ) (v : Holds s g) (room : p < len
 
       -- whoever is not p, with its guard as it is now
       other :
-          (q : ℕ) → q ≢ p → (guard : Bool) → (guard ≡ true → isOpen (stageAt ((row s q) .place)) ≡ true)
+          (q : ℕ) → q ≢ p → (guard : Bool) → (guard ≡ true → ((factsAt ((row s q) .place)) .opens) ≡ true)
           → (F q ≢ 0 → Fenced (G .lagged q) (G .peeked q) ((row s q) .locked) ((row s q) .next) guard)
           → (guard ≡ true → (s .edition ≢ 0) × (F q ≢ 0))
           → FitRow (s .edition) g (refenced G F (G .lagged) (G .peeked)) q (withGuard (row s q) guard)
@@ -205,24 +199,24 @@ module _ (s : LockState) (g : Tickets) (p : ℕ) (v : Holds s g) (room : p < len
           let x = (row s q) .succ in
           refence-fit g G F (G .lagged) (G .peeked)
           (λ k. (upd-other (G .fencer) y 0 x (not-mine (on .0) q x a (k .fenced)) ∙ k .fenced, k .parked))
-          (fencing-map (fences (stageAt ((row s q) .place))) (G .fencer) F q x
+          (fencing-map ((factsAt ((row s q) .place)) .fences) (G .fencer) F q x
           (λ b k. upd-other (G .fencer) y 0 x (not-mine (on .0) q x a k) ∙ k)
           (λ x k. upd-back (G .fencer) y 0 (suc q) x (λ z. omega arith) k))
           (λ k w. w) sh fd mn (v .fits q)
 
-  pub lift-holds : stageAt (R .place) ≡ lifting → Holds (Acts.lift s p) g
-  unfolding Acts.lift Acts.onward to putSucc putGuard putRow
+  pub lift-holds : placeAt (R .place) ≡ lift → Holds (Acts.lift s p) g
+  unfolding Acts.lift Acts.onward
   lift-holds e =
       subst (λ (r : Row). Holds (cond (isNone (r .nx)) (to t p 0) (to (putSucc t p (r .nx)) p 17)) g)
-      (sym (row-put-other s y (withGuard Y false) p apart))
+      (sym (base .own))
       (by-test (λ t. Holds t g) (isNone (R .nx))
       (λ h.
       let d : Lag g G p y = rw h at (f .duty) in
-      lifted on (both-own (λ r. withPlace r 0) base) refl refl
+      lifted on (both-to base _)
       (free-fit refl (f .small) (f .settles) (d .away) own-fenced own-manned idle))
       (λ h.
       let d : Rel g G p (R .nx) = rw h at (f .duty) in
-      lifted on (both-own (λ r. withPlace r 17) (both-own (λ r. withSucc r (R .nx)) base)) refl refl
+      lifted on (both-to (both-succ base _) _)
       (free-fit refl (f .small) (f .settles)
       (record {
         away = d .away;
@@ -232,7 +226,7 @@ module _ (s : LockState) (g : Tickets) (p : ℕ) (v : Holds s g) (room : p < len
       })
       own-fenced own-manned idle)))
     where
-      f : Fit (s .edition) g G p lifting (R .locked) (R .next) (R .pred) (R .succ) (R .nx) (R .guard)
+      f : Fit (s .edition) g G p (facts lift) (R .locked) (R .next) (R .pred) (R .succ) (R .nx) (R .guard)
       f = mine s g p v room e
 
       on : Fencing true (G .fencer) p y
@@ -252,7 +246,7 @@ module _ (s : LockState) (g : Tickets) (p : ℕ) (v : Holds s g) (room : p < len
           ((v .fits y) .fenced (λ n. let z : suc p ≡ 0 = sym (on .0) ∙ n in omega arith)) .set) refl)
 
       base : Both s t p y R (withGuard Y false)
-      base = both-near (λ r. withGuard r false) (both-start s p y apart room near)
+      base = near-guard (both-start s p y apart room near) _
 
       own-fenced :
           upd (G .fencer) y 0 p ≢ 0 → Fenced (G .lagged p) (G .peeked p) (R .locked) (R .next) (R .guard)

@@ -1,12 +1,21 @@
 -- The ghost state of the order argument: joins are numbered, and each processor remembers the number of its latest join.
--- Both are functions of the events so far. And membership: who stands in the queue, its front holder included.
+-- Both are functions of the events so far.
+--     isOrdered                the editions for which order is claimed
+--     Tickets, ticketed        the numbers given out, and what a call makes of them
+--     by-call                  a statement of state and tickets, by what becomes of a call
+--     isMember               who stands in the queue, its front holder included
 use Prim.Native.Nat.{ℕ, suc}
-use mathlib.Core.Bool.{Bool, true, false, not, _||_, cond}
+use mathlib.Core.Path.{_≡_, refl, sym, subst, _∙_}
+use mathlib.Core.Bool.{Bool, true, false, cond, _&&_, _||_}
 use lib.Dec.{eqb}
+use borrow.Author.Tests.{eq-eqb}
 use Rattle.lock.specs.declared.LockState.{LockState}
 use Rattle.lock.specs.State.{row, isPlain, isGuarded}
-use Rattle.lock.specs.Table.{Place, placeAt, rest, gate, clear, swap, arm, link, claim, spin, settle, inside, poll, service, back, regain, look, close, await, hand, fence, park, peek, take, lift, nowhere}
-use Rattle.lock.specs.Run.{Call, joins}
+use Rattle.lock.specs.Table.{stepped}
+use Rattle.lock.specs.Event.{raised}
+use Rattle.lock.specs.Run.{Call, after, stepsOf, joins}
+use Rattle.lock.proofs.Ground.Calls.{Accepted, Kind, idle, raise, step, kind}
+use Rattle.lock.proofs.Ground.Facts.{phaseAt, queues}
 
 -- the editions for which order is claimed
 abbrev pub isOrdered : ℕ → Bool
@@ -21,39 +30,42 @@ pub record Tickets : Type 0 where
 abbrev pub noTickets : Tickets
 noTickets = record { count = 0; latest = λ p. 0 }
 
+-- the tickets after p has joined
+abbrev pub joined : Tickets → ℕ → Tickets
+joined g p = record { count = suc (g .count); latest = λ q. cond (eqb q p) (g .count) (g .latest q) }
+
 -- a join takes the next number
 unfoldable pub ticketed : LockState → Tickets → Call → Tickets
 ticketed s g c =
-    cond (joins s c (c .processor))
-    (record { count = suc (g .count); latest = λ q. cond (eqb q (c .processor)) (g .count) (g .latest q) })
-    g
+    cond (joins s c (c .processor)) (joined g (c .processor)) g
 
--- in the queue, by place and locked: from arm to poll, from inside to await, and at 11 to 13 while locked is not Released
-abbrev pub member : Place → ℕ → Bool
-member rest l = false
-member gate l = false
-member clear l = false
-member swap l = false
-member arm l = true
-member link l = true
-member claim l = true
-member spin l = true
-member settle l = true
-member inside l = true
-member poll l = true
-member service l = not (eqb l 0)
-member back l = not (eqb l 0)
-member regain l = not (eqb l 0)
-member look l = true
-member close l = true
-member await l = true
-member hand l = false
-member fence l = false
-member park l = false
-member peek l = false
-member take l = false
-member lift l = false
-member nowhere l = false
+-- the tickets after p has stepped
+abbrev pub stepTickets : LockState → Tickets → ℕ → Tickets
+stepTickets s g p = cond (eqb ((row s p) .place) 3) (joined g p) g
+
+-- a statement of state and tickets holds after every call, if it holds after refused ones, accepted raises and accepted steps
+pub by-call :
+    (P : LockState → Tickets → Type 0) (s : LockState) (g : Tickets) (c : Call) → P s g
+    → (Accepted s c → P (stepped s (c .processor)) (stepTickets s g (c .processor)))
+    → (Accepted s c → P (raised s (c .processor)) g)
+    → P (after s c) (ticketed s g c)
+unfolding ticketed joins
+by-call P s g c same stepping raising = by (kind s c)
+  where
+    p : ℕ
+    p = c .processor
+
+    -- the tickets, by whether the call is a step
+    given : (x : LockState) (b : Bool) → stepsOf s c p ≡ b → after s c ≡ x
+        → P x (cond (b && eqb ((row s p) .place) 3) (joined g p) g) → P (after s c) (ticketed s g c)
+    given x b h e v =
+        subst (λ y. P y (ticketed s g c)) (sym e)
+        (subst (λ b. P x (cond (b && eqb ((row s p) .place) 3) (joined g p) g)) (sym h) v)
+
+    by : Kind s c → P (after s c) (ticketed s g c)
+    by (idle e still) = given s false (still p) e same
+    by (raise a e still) = given (raised s p) false (still p) e (raising a)
+    by (step a e whose) = given (stepped s p) true (whose p ∙ eq-eqb p p refl) e (stepping a)
 
 unfoldable pub isMember : LockState → ℕ → Bool
-isMember s p = member (placeAt ((row s p) .place)) ((row s p) .locked)
+isMember s p = queues (phaseAt ((row s p) .place)) ((row s p) .locked)

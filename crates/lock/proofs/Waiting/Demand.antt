@@ -16,7 +16,7 @@ use Rattle.lock.specs.Claims.{reached, Ordered, Waits, waited, NobodyLat
 use Rattle.lock.proofs.Order.Tickets.{Tickets, noTickets, ticketed, isMember, isOrdered}
 use Rattle.lock.proofs.Waiting.Counting.{run-append, ticketsOf, count-no, latest-without-joins, latest-within}
 use Rattle.lock.proofs.Waiting.Stepping.{rows-after, size-after, joins-own, joins-below}
-use Rattle.lock.proofs.Waiting.Queued.{Queued, queued-between, queued-to-entry, ticket-joined}
+use Rattle.lock.proofs.Waiting.Staying.{StaysIn, queued-between, queued-to-entry, ticket-joined}
 use Rattle.lock.proofs.Waiting.Standing.{Standing, nobody-behind-enters, others-enter-once, entries-at-most, queued-no-entry-at}
 
 -- ---- a run keeps the rows and N
@@ -92,7 +92,7 @@ size-joined e n before join =
 -- where p waits without an interrupt, and up to an entry after its last join, it is queued
 waiter-queued :
     (e n : ℕ) (before : List Call) (join : Call) (later : List Call) (p : ℕ) → Waits e n before join later p
-    → Queued (joinedState e n before join) (waited e n before join later p) p
+    → StaysIn (joinedState e n before join) (waited e n before join later p) p
 waiter-queued e n before join later p w =
     queued-between (reached e n before) join later p (rows-reached e n before) (w .joined)
     (subst (λ s. interruptsIn s (waited e n before join later p) p ≡ 0) (run-last (freshState e n) before join)
@@ -101,7 +101,7 @@ waiter-queued e n before join later p w =
 last-join-queued :
     (e n : ℕ) (before : List Call) (join : Call) (wait : List Call) (entry : Call) (p : ℕ)
     → LastJoin e n before join wait entry p
-    → Queued (joinedState e n before join) wait p
+    → StaysIn (joinedState e n before join) wait p
 last-join-queued e n before join wait entry p l =
     queued-to-entry (joinedState e n before join) wait entry p
     (rows-after (reached e n before) join (rows-reached e n before))
@@ -145,7 +145,7 @@ module _
     -- while p is queued: the order, at most once, and the bound
     order :
         (seen : List Call) (entry : Call) (unseen : List Call) (q : ℕ)
-        → Queued (joinedState e n before join) (seen ++ entry ∷ unseen) p
+        → StaysIn (joinedState e n before join) (seen ++ entry ∷ unseen) p
         → enters (reached e n (before ++ join ∷ seen)) entry q ≡ true
         → latestJoin (freshState e n) (before ++ join ∷ seen ++ entry ∷ []) q < suc (length before)
     order seen entry unseen q queued entered =
@@ -162,7 +162,7 @@ module _
         ((ticketsBefore e n before) .count) q standing queued there)
 
     once :
-        (wait : List Call) (q : ℕ) → Queued (joinedState e n before join) wait p
+        (wait : List Call) (q : ℕ) → StaysIn (joinedState e n before join) wait p
         → entriesIn (reached e n (before ++ join ∷ [])) wait q ≤ 1
     once wait q queued =
         subst (λ s. entriesIn s wait q ≤ 1) (sym (run-last (freshState e n) before join))
@@ -170,7 +170,7 @@ module _
         ((ticketsBefore e n before) .count) q standing queued)
 
     bound :
-        (wait : List Call) → Queued (joinedState e n before join) wait p
+        (wait : List Call) → StaysIn (joinedState e n before join) wait p
         → allEntriesIn (reached e n (before ++ join ∷ [])) wait ≤ n - 1
     bound wait queued =
         let below : p < (joinedState e n before join) .n =
@@ -184,7 +184,7 @@ module _
   pub nobody-later-enters : NobodyLaterEnters
   nobody-later-enters e n before join later p w seen entry unseen q split entered =
       order e n before join p (w .ordered) (w .joined) seen entry unseen q
-      (subst (λ cs. Queued (joinedState e n before join) cs p) split (waiter-queued e n before join later p w)) entered
+      (subst (λ cs. StaysIn (joinedState e n before join) cs p) split (waiter-queued e n before join later p w)) entered
 
   pub others-once : OthersEnterOnce
   others-once e n before join later p w q other =
@@ -199,5 +199,5 @@ module _
   pub nobody-overtakes : NobodyOvertakes
   nobody-overtakes e n before join wait entry p l seen other unseen q split entered =
       order e n before join p (l .ordered) (l .joined) seen other unseen q
-      (subst (λ cs. Queued (joinedState e n before join) cs p) split
+      (subst (λ cs. StaysIn (joinedState e n before join) cs p) split
       (last-join-queued e n before join wait entry p l)) entered

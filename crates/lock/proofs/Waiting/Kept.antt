@@ -1,33 +1,17 @@
 -- What writes leave. An act of processor p is a chain of writes, and at most one of them, the last, is of p's place.
 -- Kept says what any chain of other writes leaves: every place, and that a row which is not p's and is Released stays
--- so. Goes adds the last write: where p then is. In order: a write of one row; Kept and the writes that keep; Goes
--- and its two ends.
-use Prim.Native.Nat.{ℕ, zero, suc, _<_}
+-- so. Goes adds the last write: where p then is. In order: Kept and the writes that keep; Goes and its two ends.
+use Prim.Native.Nat.{ℕ, _<_}
 use mathlib.Core.Path.{_≡_, refl, sym, ap, _∙_, subst}
-use mathlib.Core.Bool.{Bool, true, false, cond}
-use mathlib.Core.List.{List, [], _∷_}
+use mathlib.Core.Bool.{Bool, true}
 use mathlib.Core.Logic.{_≢_}
-use lib.ListN.{length, getD, set}
+use lib.ListN.{length}
 use Rattle.lock.specs.declared.Row.{Row}
 use Rattle.lock.specs.declared.LockState.{LockState}
-use Rattle.lock.specs.State.{freshRow, row, putRow, putTail, putNext, putLocked, putGuard, putFlag, to, putPred, putSucc, putNx, withNext, withLocked, withGuard, withFlag, withPlace, withPred, withSucc, withNx, Released}
+use Rattle.lock.specs.State.{row, putRow, putTail, putNext, putLocked, putGuard, putFlag, to, putPred, putSucc, putNx, withNext, withLocked, withGuard, withFlag, withPlace, withPred, withSucc, withNx, Released}
 use Rattle.lock.specs.Table.{Place, placeAt}
-use Rattle.lock.proofs.Rows.{rows-put, row-put-same, row-put-other}
-
--- after a store an element is the one it was, or the new one at the store's own index
-set-either :
-    (P : Row → Type 0) (l : List Row) (i j : ℕ) (r d : Row) → P (getD l j d) → (j ≡ i → P r) → P (getD (set l i r) j d)
-set-either P [] i j r d old new = old
-set-either P (x ∷ l) zero zero r d old new = new refl
-set-either P (x ∷ l) zero (suc j) r d old new = old
-set-either P (x ∷ l) (suc i) zero r d old new = old
-set-either P (x ∷ l) (suc i) (suc j) r d old new = set-either P l i j r d old (λ e. new (ap suc e))
-
-pub row-put-either :
-    (P : Row → Type 0) (s : LockState) (i : ℕ) (r : Row) (j : ℕ) → P (row s j) → (j ≡ i → P r)
-    → P (row (putRow s i r) j)
-unfolding row putRow
-row-put-either P s i r j old new = set-either P (s .rows) i j r freshRow old new
+use Rattle.lock.proofs.Ground.Rows.{rows-put, row-put-same, row-put-other}
+use Rattle.lock.proofs.Ground.Writes.{row-put-either}
 
 -- x keeps what s has: every place, every Released of a row other than p's, the number of rows, N
 pub record Kept (s : LockState) (p : ℕ) (x : LockState) : Type 0 where

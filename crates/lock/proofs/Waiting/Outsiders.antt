@@ -4,223 +4,150 @@
 -- Released comes back outside.
 use Prim.Native.Nat.{ℕ, _<_}
 use mathlib.Core.Path.{_≡_, refl, sym, ap, ap₂, _∙_, subst}
-use mathlib.Core.Bool.{Bool, true, false, not, _&&_, _||_, or-true, true≢false, false≢true, cond}
+use mathlib.Core.Bool.{Bool, true, false, cond, not, _&&_, _||_, or-true}
 use mathlib.Core.Logic.{_≢_}
 use lib.ListN.{length}
-use lib.Dec.{eqb}
-use borrow.Author.Tests.{eqb-true, not-true}
-use Rattle.lock.specs.declared.LockState.{LockState}
-use Rattle.choice.proofs.Tests.{implied, by-either, right-of}
-use Rattle.lock.specs.State.{processors, isGuarded, Released, Locked, Preempted, RP, row, putLocked, to, withPlace}
-use Rattle.lock.specs.Table.{Place, placeAt, act, stepped, rest, gate, clear, swap, arm, link, claim, spin, settle, inside, poll, service, back, regain, look, close, await, hand, fence, park, peek, take, lift, nowhere}
+use lib.Dec.{eqb, lit<}
+use borrow.Author.Tests.{eqb-true}
+use Rattle.choice.specs.Every.{every}
+use Rattle.choice.proofs.Tests.{clash, implies, implied, right-of, by-test, by-either}
+use Rattle.lock.specs.State.{processors, isGuarded, Released, Preempted, RP, row, to, withPlace}
+use Rattle.lock.specs.Table.{Place, placeAt, act, stepped, service, back, regain}
 use Rattle.lock.specs.Run.{Call, after, joins}
-use Rattle.lock.proofs.Rows.{row-put-same}
-use Rattle.lock.proofs.Order.Tickets.{member, isMember}
-use Rattle.lock.proofs.Waiting.Numbers.{allOf, at-every-place, number}
-use Rattle.lock.proofs.Waiting.Leads.{leads}
-use Rattle.lock.proofs.Waiting.Calls.{Steps, Kind, quiet, step, kind}
-use Rattle.lock.proofs.Waiting.Stepping.{stepping, anywhere, whoever, join-test, there}
+use Rattle.lock.proofs.Ground.Rows.{row-put-same}
+use Rattle.lock.proofs.Ground.Facts.{Phase, outer, queueing, away, holding, releasing, outside, isAway, queues, entry, number, normal, phaseAt, number-test, at-facts}
+use Rattle.lock.proofs.Order.Tickets.{isMember}
+use Rattle.lock.proofs.Waiting.Leads.{allOf}
+use Rattle.lock.proofs.Waiting.Stepping.{Stepped, by-step, stepping, anywhere, whoever, join-test, there}
+use Rattle.lock.specs.declared.LockState.{LockState}
 use Rattle.lock.specs.Acts as Acts
 
--- the places outside the queue, whatever locked is
-abbrev outside : Place → Bool
-outside rest = true
-outside gate = true
-outside clear = true
-outside swap = true
-outside arm = false
-outside link = false
-outside claim = false
-outside spin = false
-outside settle = false
-outside inside = false
-outside poll = false
-outside service = false
-outside back = false
-outside regain = false
-outside look = false
-outside close = false
-outside await = false
-outside hand = true
-outside fence = true
-outside park = true
-outside peek = true
-outside take = true
-outside lift = true
-outside nowhere = true
-
--- the places away on an interrupt
-abbrev away : Place → Bool
-away rest = false
-away gate = false
-away clear = false
-away swap = false
-away arm = false
-away link = false
-away claim = false
-away spin = false
-away settle = false
-away inside = false
-away poll = false
-away service = true
-away back = true
-away regain = true
-away look = false
-away close = false
-away await = false
-away hand = false
-away fence = false
-away park = false
-away peek = false
-away take = false
-away lift = false
-away nowhere = false
-
-member-is : (k : Place) (l : ℕ) → member k l ≡ (not (outside k) && (not (away k) || not (eqb l Released)))
-member-is rest l = refl
-member-is gate l = refl
-member-is clear l = refl
-member-is swap l = refl
-member-is arm l = refl
-member-is link l = refl
-member-is claim l = refl
-member-is spin l = refl
-member-is settle l = refl
-member-is inside l = refl
-member-is poll l = refl
-member-is service l = refl
-member-is back l = refl
-member-is regain l = refl
-member-is look l = refl
-member-is close l = refl
-member-is await l = refl
-member-is hand l = refl
-member-is fence l = refl
-member-is park l = refl
-member-is peek l = refl
-member-is take l = refl
-member-is lift l = refl
-member-is nowhere l = refl
-
-outside-is-out : (k : Place) (l : ℕ) → outside k ≡ true → member k l ≡ false
-outside-is-out k l h = member-is k l ∙ ap (λ b. not b && (not (away k) || not (eqb l Released))) h
-
 -- not a member: outside, or away with locked Released
-data Out (k : Place) (l : ℕ) : Type 0 where
-  left : outside k ≡ true → Out k l
-  passed : away k ≡ true → l ≡ Released → Out k l
+data Out (f : Phase) (l : ℕ) : Type 0 where
+  left : outside f ≡ true → Out f l
+  passed : isAway f ≡ true → l ≡ Released → Out f l
 
-out-by : (k : Place) (l : ℕ) (o a r : Bool) → outside k ≡ o → away k ≡ a → eqb l Released ≡ r
-    → (not o && (not a || not r)) ≡ false → Out k l
-out-by k l true a r e f g h = left e
-out-by k l false false r e f g h = absurd (true≢false h)
-out-by k l false true true e f g h = passed f (eqb-true l Released g)
-out-by k l false true false e f g h = absurd (true≢false h)
+out : (f : Phase) (l : ℕ) → queues f l ≡ false → Out f l
+out outer l h = left refl
+out queueing l h = clash refl h
+out away l h = by (eqb l Released) refl h
+  where
+    by : (b : Bool) → eqb l Released ≡ b → not b ≡ false → Out away l
+    by true e h = passed refl (eqb-true l Released e)
+    by false e h = clash refl h
+out holding l h = clash refl h
+out releasing l h = left refl
 
-out : (k : Place) (l : ℕ) → member k l ≡ false → Out k l
-out k l h = out-by k l (outside k) (away k) (eqb l Released) refl refl refl (sym (member-is k l) ∙ h)
+-- and the other way round
+outside-is-out : (f : Phase) (l : ℕ) → outside f ≡ true → queues f l ≡ false
+outside-is-out f l h = ap (λ b. not b && (not (isAway f) || not (eqb l Released))) h
 
--- away and Released is out
-away-is-out : (k : Place) (l : ℕ) → (outside k || away k) ≡ true → l ≡ Released → member k l ≡ false
-away-is-out k l h e =
-    ap (λ m. member k m) e ∙ not-true (member k 0)
-    (implied (outside k || away k) (not (member k 0))
-    (at-every-place (λ i. not (outside i || away i) || not (member i 0)) refl k) h)
+away-is-out : (f : Phase) (l : ℕ) → (outside f || isAway f) ≡ true → l ≡ Released → queues f l ≡ false
+away-is-out outer l h e = refl
+away-is-out queueing l h e = clash h refl
+away-is-out away l h e = ap (λ l. not (eqb l Released)) e
+away-is-out holding l h e = clash h refl
+away-is-out releasing l h e = refl
 
 -- x has processor p outside the queue
 abbrev IsOut : ℕ → LockState → Type 0
-IsOut p x = member (placeAt ((row x p) .place)) ((row x p) .locked) ≡ false
+IsOut p x = queues (phaseAt ((row x p) .place)) ((row x p) .locked) ≡ false
+
+-- who is away is at 11, 12 or 13
+away-at : (m : ℕ) → isAway (phaseAt m) ≡ true → (eqb m 11 || eqb m 12 || eqb m 13) ≡ true
+unfolding every
+away-at m h =
+    sym (λ i. number-test m 11 (lit< tt) i || number-test m 12 (lit< tt) i || number-test m 13 (lit< tt) i)
+    ∙ implied (isAway (phaseAt m)) (eqb (normal m) 11 || eqb (normal m) 12 || eqb (normal m) 13)
+    (at-facts (λ k. implies (isAway ((entry k) .phase)) (eqb (number k) 11 || eqb (number k) 12 || eqb (number k) 13)) refl m) h
 
 module _ (s : LockState) (p : ℕ) (here : p < length (s .rows)) (released : (row s p) .locked ≡ Released) where
-  out-to : (v : ℕ) → (outside (placeAt v) || away (placeAt v)) ≡ true → IsOut p (to s p v)
+  out-to : (v : ℕ) → (outside (phaseAt v) || isAway (phaseAt v)) ≡ true → IsOut p (to s p v)
   unfolding to
   out-to v h =
-      ap (λ w. member (placeAt (w .place)) (w .locked)) (row-put-same s p (withPlace (row s p) v) here)
-      ∙ away-is-out (placeAt v) ((row s p) .locked) h released
+      ap (λ w. queues (phaseAt (w .place)) (w .locked)) (row-put-same s p (withPlace (row s p) v) here)
+      ∙ away-is-out (phaseAt v) ((row s p) .locked) h released
 
   out-service : IsOut p (Acts.service s p)
   unfolding Acts.service
-  out-service = out-to 12 refl
+  out-service = out-to _ refl
 
+  -- with locked Released the tests of back and regain fail
   out-back : IsOut p (Acts.back s p)
   unfolding Acts.back
   out-back =
-      subst (IsOut p) (sym (ap (λ l. cond (eqb l Preempted) (to (putLocked s p Locked) p 7) (to s p 13)) released))
-      (out-to 13 refl)
+      by-test (IsOut p) (eqb ((row s p) .locked) Preempted) (λ b. clash b (ap (λ l. eqb l Preempted) released))
+      (λ b. out-to _ refl)
 
   out-regain : IsOut p (Acts.regain s p)
   unfolding Acts.regain Acts.toQueue
   out-regain =
-      subst (IsOut p) (sym (ap (λ l. cond (eqb l RP) (to (putLocked s p Released) p 7) (Acts.toQueue s p)) released))
-      (out-to (cond (isGuarded (s .edition)) 1 2)
-      (by-either (λ v. (outside (placeAt v) || away (placeAt v)) ≡ true) (isGuarded (s .edition)) refl refl))
+      by-test (IsOut p) (eqb ((row s p) .locked) RP) (λ b. clash b (ap (λ l. eqb l RP) released))
+      (λ b. by-either (λ v. IsOut p (to s p v)) (isGuarded (s .edition)) (out-to _ refl) (out-to _ refl))
 
-  out-away : (k : Place) → away k ≡ true → IsOut p (act k s p)
-  out-away rest h = absurd (false≢true h)
-  out-away gate h = absurd (false≢true h)
-  out-away clear h = absurd (false≢true h)
-  out-away swap h = absurd (false≢true h)
-  out-away arm h = absurd (false≢true h)
-  out-away link h = absurd (false≢true h)
-  out-away claim h = absurd (false≢true h)
-  out-away spin h = absurd (false≢true h)
-  out-away settle h = absurd (false≢true h)
-  out-away inside h = absurd (false≢true h)
-  out-away poll h = absurd (false≢true h)
-  out-away service h = out-service
-  out-away back h = out-back
-  out-away regain h = out-regain
-  out-away look h = absurd (false≢true h)
-  out-away close h = absurd (false≢true h)
-  out-away await h = absurd (false≢true h)
-  out-away hand h = absurd (false≢true h)
-  out-away fence h = absurd (false≢true h)
-  out-away park h = absurd (false≢true h)
-  out-away peek h = absurd (false≢true h)
-  out-away take h = absurd (false≢true h)
-  out-away lift h = absurd (false≢true h)
-  out-away nowhere h = absurd (false≢true h)
+  out-away : isAway (phaseAt ((row s p) .place)) ≡ true → IsOut p (act (placeAt ((row s p) .place)) s p)
+  out-away h =
+      by (eqb m 11) (eqb m 12) (eqb m 13) refl refl refl (away-at m h)
+    where
+      m : ℕ
+      m = (row s p) .place
+
+      is : (v : ℕ) → eqb m v ≡ true → IsOut p (act (placeAt v) s p) → IsOut p (act (placeAt m) s p)
+      is v e o = subst (λ (k : ℕ). IsOut p (act (placeAt k) s p)) (sym (eqb-true m v e)) o
+
+      by : (a b c : Bool) → eqb m 11 ≡ a → eqb m 12 ≡ b → eqb m 13 ≡ c → (a || b || c) ≡ true → IsOut p (act (placeAt m) s p)
+      by true b c e f g h = is 11 e out-service
+      by false true c e f g h = is 12 f out-back
+      by false false true e f g h = is 13 g out-regain
+      by false false false e f g h = clash h refl
 
 -- the table's part: from outside one gets outside, unless by the swap
-outside-leads : (k : Place) → outside k ≡ true → eqb (number k) 3 ≡ false → allOf outside (leads k) ≡ true
-outside-leads k h other =
-    right-of (eqb (number k) 3) (allOf outside (leads k))
-    (implied (outside k) (eqb (number k) 3 || allOf outside (leads k))
-    (at-every-place (λ i. not (outside i) || (eqb (number i) 3 || allOf outside (leads i))) refl k) h) other
+abbrev is-outside : Place → Bool
+is-outside j = outside ((entry j) .phase)
 
-module _ (s : LockState) (c : Call) (whole : length (s .rows) ≡ processors) (k : Steps s c) where
-  own-outsider : Out (placeAt ((row s (c .processor)) .place)) ((row s (c .processor)) .locked)
+outside-leads :
+    (m : ℕ) → outside (phaseAt m) ≡ true → eqb (normal m) 3 ≡ false → allOf is-outside ((entry (placeAt m)) .leads) ≡ true
+unfolding every
+outside-leads m h other =
+    let led = allOf is-outside ((entry (placeAt m)) .leads) in
+    right-of (eqb (normal m) 3) led
+    (implied (outside (phaseAt m)) (eqb (normal m) 3 || led)
+    (at-facts (λ k. implies (outside ((entry k) .phase)) (eqb (number k) 3 || allOf is-outside ((entry k) .leads))) refl m)
+    h) other
+
+module _ (s : LockState) (c : Call) (whole : length (s .rows) ≡ processors) (k : Stepped s c) where
+  own-outsider : Out (phaseAt ((row s (c .processor)) .place)) ((row s (c .processor)) .locked)
       → joins s c (c .processor) ≡ false → IsOut (c .processor) (after s c)
   unfolding stepped
   own-outsider (left h) none =
-      outside-is-out (placeAt ((row (after s c) (c .processor)) .place)) ((row (after s c) (c .processor)) .locked)
-      ((stepping s c whole k outside (outside-leads (placeAt ((row s (c .processor)) .place)) h
+      let t = row (after s c) (c .processor) in
+      outside-is-out (phaseAt (t .place)) (t .locked)
+      ((stepping s c whole k is-outside (outside-leads ((row s (c .processor)) .place) h
       (join-test s c whole k false none))) .own)
   own-outsider (passed h z) none =
-      subst (IsOut (c .processor)) (sym (k .act))
-      (out-away s (c .processor) (there s c whole k) z (placeAt ((row s (c .processor)) .place)) h)
+      subst (IsOut (c .processor)) (sym (k .act)) (out-away s (c .processor) (there s c whole k) z h)
 
   other-outsider :
-      (q : ℕ) → q ≢ c .processor → Out (placeAt ((row s q) .place)) ((row s q) .locked) → IsOut q (after s c)
-  other-outsider q other (left h) =
-      outside-is-out (placeAt ((row (after s c) q) .place)) ((row (after s c) q) .locked)
-      (ap (λ m. outside (placeAt m)) ((anywhere s c whole k) .others q other) ∙ h)
-  other-outsider q other (passed h z) =
-      ap (λ m. member (placeAt m) ((row (after s c) q) .locked)) ((anywhere s c whole k) .others q other)
-      ∙ away-is-out (placeAt ((row s q) .place)) ((row (after s c) q) .locked)
-      (ap (λ b. outside (placeAt ((row s q) .place)) || b) h ∙ or-true (outside (placeAt ((row s q) .place))))
-      ((anywhere s c whole k) .released q other z)
+      (q : ℕ) → q ≢ c .processor → Out (phaseAt ((row s q) .place)) ((row s q) .locked) → IsOut q (after s c)
+  other-outsider q other o =
+      ap (λ m. queues (phaseAt m) ((row (after s c) q) .locked)) ((anywhere s c whole k) .others q other) ∙ still o
+    where
+      still :
+          Out (phaseAt ((row s q) .place)) ((row s q) .locked)
+          → queues (phaseAt ((row s q) .place)) ((row (after s c) q) .locked) ≡ false
+      still (left h) = outside-is-out (phaseAt ((row s q) .place)) ((row (after s c) q) .locked) h
+      still (passed h z) =
+          away-is-out (phaseAt ((row s q) .place)) ((row (after s c) q) .locked)
+          (ap (λ b. outside (phaseAt ((row s q) .place)) || b) h ∙ or-true (outside (phaseAt ((row s q) .place))))
+          ((anywhere s c whole k) .released q other z)
 
 pub outsider-stays : (s : LockState) (c : Call) → length (s .rows) ≡ processors
     → (q : ℕ) → isMember s q ≡ false → joins s c q ≡ false → isMember (after s c) q ≡ false
 unfolding isMember
-outsider-stays s c whole = by (kind s c)
-  where
-    by : Kind s c → (q : ℕ) → IsOut q s → joins s c q ≡ false → IsOut q (after s c)
-    by (quiet still same) = λ q h none. ap₂ (λ m l. member (placeAt m) l) (same .places q) (same .locked q) ∙ h
-    by (step k) =
-        whoever s c whole k (λ q. IsOut q s → joins s c q ≡ false → IsOut q (after s c))
-        (λ h none. own-outsider s c whole k
-        (out (placeAt ((row s (c .processor)) .place)) ((row s (c .processor)) .locked) h) none)
-        (λ q other idle h none. other-outsider s c whole k q other
-        (out (placeAt ((row s q) .place)) ((row s q) .locked) h))
+outsider-stays s c whole =
+    by-step s c (λ still same q h none. ap₂ (λ m l. queues (phaseAt m) l) (same .places q) (same .locked q) ∙ h)
+    (λ k.
+    whoever s c whole k (λ q. IsOut q s → joins s c q ≡ false → IsOut q (after s c))
+    (λ h none. own-outsider s c whole k
+    (out (phaseAt ((row s (c .processor)) .place)) ((row s (c .processor)) .locked) h) none)
+    (λ q other idle h none. other-outsider s c whole k q other (out (phaseAt ((row s q) .place)) ((row s q) .locked) h)))

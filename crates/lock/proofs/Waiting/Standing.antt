@@ -18,7 +18,7 @@ use Rattle.lock.proofs.Order.Tickets.{Tickets, ticketed, isMember}
 use Rattle.lock.proofs.Waiting.Counting.{count-yes, count-no, count-grows, count-there, total, total-mono, total-raised, total-bound}
 use Rattle.lock.proofs.Waiting.Stepping.{rows-after, size-after, enters-below}
 use Rattle.lock.proofs.Waiting.Moves.{isSpent, entered-is-spent, spent-stays}
-use Rattle.lock.proofs.Waiting.Queued.{Queued, ticket-joined, ticket-kept, ticket-later}
+use Rattle.lock.proofs.Waiting.Staying.{StaysIn, ticket-joined, ticket-kept, ticket-later}
 
 -- the entries of the whole run are those of the processors below N, added up
 module _ (n : ℕ) where
@@ -54,13 +54,13 @@ module _ (n : ℕ) where
       (entries-total (after s c) cs (rows-after s c whole) (size-after s c whole ∙ size))
 
 -- while p is queued it does not enter
-pub queued-no-entry : (s : LockState) (cs : List Call) (p : ℕ) → Queued s cs p → entriesIn s cs p ≡ 0
+pub queued-no-entry : (s : LockState) (cs : List Call) (p : ℕ) → StaysIn s cs p → entriesIn s cs p ≡ 0
 unfolding entriesIn countIn
 queued-no-entry s [] p h = refl
 queued-no-entry s (c ∷ cs) p h = count-no (λ t d. enters t d p) s c cs (h .1) ∙ queued-no-entry (after s c) cs p (h .3)
 
 pub queued-no-entry-at :
-    (s : LockState) (seen : List Call) (c : Call) (unseen : List Call) (p : ℕ) → Queued s (seen ++ c ∷ unseen) p
+    (s : LockState) (seen : List Call) (c : Call) (unseen : List Call) (p : ℕ) → StaysIn s (seen ++ c ∷ unseen) p
     → enters (run s seen) c p ≡ false
 unfolding run
 queued-no-entry-at s [] c unseen p h = h .1
@@ -94,7 +94,7 @@ module _
 
   -- whoever enters by a call after which p is a member has an earlier ticket
   earlier :
-      (s : LockState) (g : Tickets) (c : Call) (cs : List Call) (p k q : ℕ) → Standing s g p k → Queued s (c ∷ cs) p
+      (s : LockState) (g : Tickets) (c : Call) (cs : List Call) (p k q : ℕ) → Standing s g p k → StaysIn s (c ∷ cs) p
       → enters s c q ≡ true → (ticketed s g c) .latest q < k
   earlier s g c cs p k q h w e =
       let before : (ticketed s g c) .latest q < (ticketed s g c) .latest p =
@@ -105,7 +105,7 @@ module _
 
   behind-by :
       (s : LockState) (g : Tickets) (c : Call) (cs : List Call) (p k q : ℕ) (b : Bool) → enters s c q ≡ b
-      → Standing s g p k → Queued s (c ∷ cs) p
+      → Standing s g p k → StaysIn s (c ∷ cs) p
       → k < (ticketed s g c) .latest q → entriesIn (after s c) cs q ≡ 0 → entriesIn s (c ∷ cs) q ≡ 0
   unfolding entriesIn
   behind-by s g c cs p k q true e h w l rec =
@@ -114,7 +114,7 @@ module _
   behind-by s g c cs p k q false e h w l rec = count-no (λ t d. enters t d q) s c cs e ∙ rec
 
   behind-never-enters :
-      (s : LockState) (g : Tickets) (cs : List Call) (p k q : ℕ) → Standing s g p k → Queued s cs p → k < g .latest q
+      (s : LockState) (g : Tickets) (cs : List Call) (p k q : ℕ) → Standing s g p k → StaysIn s cs p → k < g .latest q
       → entriesIn s cs q ≡ 0
   unfolding entriesIn countIn
   behind-never-enters s g [] p k q h w l = refl
@@ -125,7 +125,7 @@ module _
 
   -- after an own join q is behind p, and does not enter by that very call either
   joined-never-enters :
-      (s : LockState) (g : Tickets) (c : Call) (cs : List Call) (p k q : ℕ) → Standing s g p k → Queued s (c ∷ cs) p
+      (s : LockState) (g : Tickets) (c : Call) (cs : List Call) (p k q : ℕ) → Standing s g p k → StaysIn s (c ∷ cs) p
       → joins s c q ≡ true → entriesIn s (c ∷ cs) q ≡ 0
   joined-never-enters s g c cs p k q h w e =
       let new : (ticketed s g c) .latest q ≡ g .count = ticket-joined s g c q e .0 in
@@ -139,7 +139,7 @@ module _
   nobody-by :
       (s : LockState) (g : Tickets) (c : Call) (rest : List Call) (cs : List Call) (p k q : ℕ) (b : Bool)
       → joins s c q ≡ b
-      → Standing s g p k → Queued s (c ∷ cs) p → 1 ≤ entriesIn s (c ∷ cs) q → joinsIn (after s c) rest q ≡ 0
+      → Standing s g p k → StaysIn s (c ∷ cs) p → 1 ≤ entriesIn s (c ∷ cs) q → joinsIn (after s c) rest q ≡ 0
       → joinsIn s (c ∷ rest) q ≡ 0
   unfolding joinsIn
   nobody-by s g c rest cs p k q true e h w there rec =
@@ -149,7 +149,7 @@ module _
 
   pub nobody-behind-enters :
       (s : LockState) (g : Tickets) (seen : List Call) (c : Call) (unseen : List Call) (p k q : ℕ) → Standing s g p k
-      → Queued s (seen ++ c ∷ unseen) p → enters (run s seen) c q ≡ true → joinsIn s (seen ++ c ∷ []) q ≡ 0
+      → StaysIn s (seen ++ c ∷ unseen) p → enters (run s seen) c q ≡ true → joinsIn s (seen ++ c ∷ []) q ≡ 0
   unfolding run joinsIn countIn entriesIn
   nobody-behind-enters s g [] c unseen p k q h w e =
       nobody-by s g c [] unseen p k q (joins s c q) refl h w (count-there (λ t d. enters t d q) s [] c unseen e) refl
@@ -163,7 +163,7 @@ module _
 
   spent-by :
       (s : LockState) (g : Tickets) (c : Call) (cs : List Call) (p k q : ℕ) (b : Bool) → joins s c q ≡ b
-      → Standing s g p k → Queued s (c ∷ cs) p
+      → Standing s g p k → StaysIn s (c ∷ cs) p
       → isSpent s q ≡ true → (isSpent (after s c) q ≡ true → entriesIn (after s c) cs q ≡ 0)
       → entriesIn s (c ∷ cs) q ≡ 0
   unfolding entriesIn
@@ -173,7 +173,7 @@ module _
       count-no (λ t d. enters t d q) s c cs (on .1) ∙ rec (on .0)
 
   spent-never-enters :
-      (s : LockState) (g : Tickets) (cs : List Call) (p k q : ℕ) → Standing s g p k → Queued s cs p → isSpent s q ≡ true
+      (s : LockState) (g : Tickets) (cs : List Call) (p k q : ℕ) → Standing s g p k → StaysIn s cs p → isSpent s q ≡ true
       → entriesIn s cs q ≡ 0
   unfolding entriesIn countIn
   spent-never-enters s g [] p k q h w out = refl
@@ -183,7 +183,7 @@ module _
 
   once-by :
       (s : LockState) (g : Tickets) (c : Call) (cs : List Call) (p k q : ℕ) (b : Bool) → enters s c q ≡ b
-      → Standing s g p k → Queued s (c ∷ cs) p
+      → Standing s g p k → StaysIn s (c ∷ cs) p
       → entriesIn (after s c) cs q ≤ 1 → entriesIn s (c ∷ cs) q ≤ 1
   unfolding entriesIn
   once-by s g c cs p k q true e h w rec =
@@ -195,7 +195,7 @@ module _
   once-by s g c cs p k q false e h w rec = subst (λ m. m ≤ 1) (sym (count-no (λ t d. enters t d q) s c cs e)) rec
 
   pub others-enter-once :
-      (s : LockState) (g : Tickets) (cs : List Call) (p k q : ℕ) → Standing s g p k → Queued s cs p
+      (s : LockState) (g : Tickets) (cs : List Call) (p k q : ℕ) → Standing s g p k → StaysIn s cs p
       → entriesIn s cs q ≤ 1
   unfolding entriesIn countIn
   others-enter-once s g [] p k q h w = omega arith
@@ -206,7 +206,7 @@ module _
   -- ---- the bound
 
   pub entries-at-most :
-      (s : LockState) (g : Tickets) (cs : List Call) (p k : ℕ) → Standing s g p k → Queued s cs p → p < s .n
+      (s : LockState) (g : Tickets) (cs : List Call) (p k : ℕ) → Standing s g p k → StaysIn s cs p → p < s .n
       → allEntriesIn s cs ≤ s .n - 1
   entries-at-most s g cs p k h w below =
       let sum : allEntriesIn s cs ≤ total (s .n) (entriesIn s cs) = entries-total (s .n) s cs (h .whole) refl in

@@ -1,45 +1,89 @@
 -- A step of a processor, seen through a test that passes wherever the act of its place leads; and what follows for
--- any call without looking at roles.
+-- any call without looking at the step table.
+--     Same, Stepped, by-step   a call leaves every place and locked, or is the step of one processor
 --     stepping, anywhere       the step ends where the test passes; the other rows are as Goes says
 --     whoever                  what holds of the one that steps and of every other holds of each
 --     join-test, entry-test, interrupt-test      Run's tests on the step, as tests of the places before and after
 --     rows-after, size-after   the number of rows and N stay
---     enters-own, enters-below who enters is the call's own processor, and below N
+--     joins-own, joins-below, enters-own, enters-below     who joins or enters is the call's own processor, and below N
+--     inside-by-entry          one comes to place 9 only by its own entry
 use Prim.Native.Nat.{ℕ, _≤_, _<_}
 use native.Mathlib.Omega.{arith}
 use mathlib.Core.Path.{_≡_, refl, sym, ap, ap₂, _∙_, subst}
-use mathlib.Core.Bool.{Bool, true, false, _&&_, _||_, true≢false, false≢true}
+use mathlib.Core.Bool.{Bool, true, false, _&&_, _||_, or-true}
 use mathlib.Core.Logic.{_≢_}
 use lib.ListN.{length}
 use lib.Dec.{eqb, lit<}
 use borrow.Author.Tests.{eqb-true, eqb-false, eq-eqb}
 use Rattle.lock.specs.declared.LockState.{LockState}
-use Rattle.choice.proofs.Tests.{and-left, and-rest}
-use Rattle.lock.specs.State.{processors, row}
+use Rattle.choice.specs.Every.{every}
+use Rattle.choice.proofs.Tests.{and-left, and-rest, clash}
+use Rattle.lock.specs.State.{processors, row, putRow, putFlag, withFlag}
 use Rattle.lock.specs.Table.{Place, placeAt, stepped}
-use Rattle.lock.specs.Run.{Call, after, stepsOf, joins, enters, interrupted}
-use Rattle.lock.proofs.Waiting.Numbers.{allOf, at-every-place, number, number-test}
+use Rattle.lock.specs.Run.{Call, after, stepsOf, joins, enters, interrupted, isInside}
+use Rattle.lock.specs.Event.{raised}
+use Rattle.lock.proofs.Ground.Rows.{rows-put}
+use Rattle.lock.proofs.Ground.Writes.{put-all}
+use Rattle.lock.proofs.Ground.Calls.{Accepted, Kind, idle, raise, step, kind}
+use Rattle.lock.proofs.Ground.Facts.{entry, number, number-test, at-facts}
+use Rattle.lock.proofs.Keeping.Parts.{row-room}
 use Rattle.lock.proofs.Waiting.Kept.{Goes}
-use Rattle.lock.proofs.Waiting.Leads.{leads, goes}
-use Rattle.lock.proofs.Waiting.Calls.{Steps, Kind, quiet, step, kind}
+use Rattle.lock.proofs.Waiting.Leads.{allOf, goes}
+
+-- x has the places, the locked cells, as many rows and the N of s
+pub record Same (s x : LockState) : Type 0 where
+  pub places : (q : ℕ) → (row x q) .place ≡ (row s q) .place
+  pub locked : (q : ℕ) → (row x q) .locked ≡ (row s q) .locked
+  pub rows : length (x .rows) ≡ length (s .rows)
+  pub size : x .n ≡ s .n
+
+same-self : (s : LockState) → Same s s
+same-self s = record { places = λ q. refl; locked = λ q. refl; rows = refl; size = refl }
+
+same-raised : (s : LockState) (p : ℕ) → Same s (raised s p)
+unfolding raised putFlag putRow
+same-raised s p =
+    record {
+      places = put-all (λ q w. w .place ≡ (row s q) .place) s p (withFlag (row s p) true) (λ q. refl) refl;
+      locked = put-all (λ q w. w .locked ≡ (row s q) .locked) s p (withFlag (row s p) true) (λ q. refl) refl;
+      rows = rows-put s p (withFlag (row s p) true);
+      size = refl;
+    }
+
+-- the call is an accepted step
+pub record Stepped (s : LockState) (c : Call) : Type 0 where
+  pub accepted : Accepted s c
+  pub act : after s c ≡ stepped s (c .processor)
+  pub whose : (q : ℕ) → stepsOf s c q ≡ eqb (c .processor) q
+
+-- a law of a call, by whether it is a step
+pub by-step :
+    (s : LockState) (c : Call) {F : Type 0} → (((q : ℕ) → stepsOf s c q ≡ false) → Same s (after s c) → F)
+    → (Stepped s c → F)
+    → F
+by-step s c {F} quiet stepping = by (kind s c)
+  where
+    by : Kind s c → F
+    by (idle e still) = quiet still (subst (λ x. Same s x) (sym e) (same-self s))
+    by (raise a e still) = quiet still (subst (λ x. Same s x) (sym e) (same-raised s (c .processor)))
+    by (step a e whose) = stepping (record { accepted = a; act = e; whose = whose })
 
 -- A step of p, seen through a test that passes wherever the act of p's place leads.
-module _ (s : LockState) (c : Call) (whole : length (s .rows) ≡ processors) (k : Steps s c) where
+module _ (s : LockState) (c : Call) (whole : length (s .rows) ≡ processors) (k : Stepped s c) where
   pub there : c .processor < length (s .rows)
-  there = let b : c .processor < s .n = k .below in let r : s .n ≤ processors = k .room in omega arith
+  there = row-room s (k .accepted .fit) whole (k .accepted .below)
 
   pub stepping :
-      (ok : Place → Bool) → allOf ok (leads (placeAt ((row s (c .processor)) .place))) ≡ true
+      (ok : Place → Bool) → allOf ok ((entry (placeAt ((row s (c .processor)) .place))) .leads) ≡ true
       → Goes s (c .processor) ok (after s c)
   unfolding stepped
   stepping ok h =
-      subst (λ x. Goes s (c .processor) ok x) (sym (k .act))
-      (goes s (c .processor) there ok (placeAt ((row s (c .processor)) .place)) refl h)
+      subst (λ x. Goes s (c .processor) ok x) (sym (k .act)) (goes s (c .processor) there ok h)
 
   pub anywhere : Goes s (c .processor) (λ j. true) (after s c)
+  unfolding every
   anywhere =
-      stepping (λ j. true)
-      (at-every-place (λ j. allOf (λ i. true) (leads j)) refl (placeAt ((row s (c .processor)) .place)))
+      stepping (λ j. true) (at-facts (λ j. allOf (λ i. true) ((entry j) .leads)) refl ((row s (c .processor)) .place))
 
   -- what holds of the processor that steps, and of every other, holds of each
   pub whoever :
@@ -85,18 +129,11 @@ module _ (s : LockState) (c : Call) (whole : length (s .rows) ≡ processors) (k
 -- ---- the number of rows and N stay
 
 pub rows-after : (s : LockState) (c : Call) → length (s .rows) ≡ processors → length ((after s c) .rows) ≡ processors
-rows-after s c whole = by (kind s c)
-  where
-    by : Kind s c → length ((after s c) .rows) ≡ processors
-    by (quiet still same) = same .rows ∙ whole
-    by (step k) = (anywhere s c whole k) .rows ∙ whole
+rows-after s c whole =
+    by-step s c (λ still same. same .rows ∙ whole) (λ k. (anywhere s c whole k) .rows ∙ whole)
 
 pub size-after : (s : LockState) (c : Call) → length (s .rows) ≡ processors → (after s c) .n ≡ s .n
-size-after s c whole = by (kind s c)
-  where
-    by : Kind s c → (after s c) .n ≡ s .n
-    by (quiet still same) = same .size
-    by (step k) = (anywhere s c whole k) .size
+size-after s c whole = by-step s c (λ still same. same .size) (λ k. (anywhere s c whole k) .size)
 
 -- ---- entries
 
@@ -113,30 +150,36 @@ pub joins-steps : (s : LockState) (c : Call) (q : ℕ) → joins s c q ≡ true 
 unfolding joins
 joins-steps s c q h = and-left (stepsOf s c q) (eqb ((row s q) .place) 3) h
 
+-- a step of q is the call's own processor's, which is below N
+steps-own : (s : LockState) (c : Call) (q : ℕ) → stepsOf s c q ≡ true → (c .processor ≡ q) × (q < s .n)
+steps-own s c q h =
+    by-step s c (λ still same. clash h (still q))
+    (λ k.
+    let own : c .processor ≡ q = eqb-true (c .processor) q (sym (k .whose q) ∙ h) in
+    (own, subst (λ i. i < s .n) own (k .accepted .below)))
+
 pub joins-own : (s : LockState) (c : Call) (q : ℕ) → joins s c q ≡ true → c .processor ≡ q
-joins-own s c q h = by (kind s c)
-  where
-    by : Kind s c → c .processor ≡ q
-    by (quiet still same) = absurd (true≢false (sym (joins-steps s c q h) ∙ still q))
-    by (step k) = eqb-true (c .processor) q (sym (k .whose q) ∙ joins-steps s c q h)
+joins-own s c q h = steps-own s c q (joins-steps s c q h) .0
 
 pub joins-below : (s : LockState) (c : Call) (q : ℕ) → joins s c q ≡ true → q < s .n
-joins-below s c q h = by (kind s c)
-  where
-    by : Kind s c → q < s .n
-    by (quiet still same) = absurd (true≢false (sym (joins-steps s c q h) ∙ still q))
-    by (step k) = subst (λ i. i < s .n) (joins-own s c q h) (k .below)
+joins-below s c q h = steps-own s c q (joins-steps s c q h) .1
 
 pub enters-own : (s : LockState) (c : Call) (q : ℕ) → enters s c q ≡ true → c .processor ≡ q
-enters-own s c q h = by (kind s c)
-  where
-    by : Kind s c → c .processor ≡ q
-    by (quiet still same) = absurd (true≢false (sym (enters-steps s c q h) ∙ still q))
-    by (step k) = eqb-true (c .processor) q (sym (k .whose q) ∙ enters-steps s c q h)
+enters-own s c q h = steps-own s c q (enters-steps s c q h) .0
 
 pub enters-below : (s : LockState) (c : Call) (q : ℕ) → enters s c q ≡ true → q < s .n
-enters-below s c q h = by (kind s c)
-  where
-    by : Kind s c → q < s .n
-    by (quiet still same) = absurd (true≢false (sym (enters-steps s c q h) ∙ still q))
-    by (step k) = subst (λ i. i < s .n) (enters-own s c q h) (k .below)
+enters-below s c q h = steps-own s c q (enters-steps s c q h) .1
+
+-- who is at place 9 after a call was there before, or the call is its entry
+pub inside-by-entry :
+    (s : LockState) (c : Call) → length (s .rows) ≡ processors → (q : ℕ) → isInside (after s c) q ≡ true
+    → isInside s q || enters s c q ≡ true
+unfolding isInside enters
+inside-by-entry s c whole =
+    by-step s c (λ still same q h. rw (sym (ap (λ m. eqb m 9) (same .places q)) ∙ h) refl)
+    (λ k.
+    whoever s c whole k
+    (λ q. eqb ((row (after s c) q) .place) 9 ≡ true
+    → eqb ((row s q) .place) 9 || (stepsOf s c q && eqb ((row (after s c) q) .place) 9) ≡ true)
+    (λ h. rw (own-step s c whole k, h) (or-true (eqb ((row s (c .processor)) .place) 9)))
+    (λ q other idle h. rw (sym (ap (λ m. eqb m 9) ((anywhere s c whole k) .others q other)) ∙ h) refl))

@@ -9,7 +9,7 @@ use native.Mathlib.Omega.{arith}
 use Rattle.lock.specs.declared.Row.{Row}
 use Rattle.lock.specs.declared.LockState.{LockState}
 use Rattle.lock.specs.State.{processors, putRow}
-use Rattle.lock.proofs.Rows.{length-mapped}
+use Rattle.lock.proofs.Ground.Rows.{length-mapped}
 use Rattle.lock.proofs.LockState.put_row.Statement.{statement}
 use Rattle.lock.proofs.LockState.put_row.Tie as tie
 

@@ -5,7 +5,7 @@ use lib.ListN.{length, List·getD-eq-default}
 use mathlib.Core.Path.{_∙_, sym, _≡_}
 use native.Mathlib.Omega.{arith}
 use Rattle.lock.specs.State.{processors, freshRow, row}
-use Rattle.lock.proofs.Rows.{row-within, length-mapped}
+use Rattle.lock.proofs.Ground.Rows.{row-within, length-mapped}
 use Rattle.lock.proofs.LockState.row.Statement.{statement}
 use Rattle.lock.proofs.LockState.row.Tie as tie
 

@@ -12,7 +12,7 @@ use Rattle.lock.specs.declared.LockState.{LockState}
 use Rattle.choice.specs.Every.{every}
 use Rattle.lock.specs.Sound.{cellsSound, placeSound, asFresh, soundRow}
 use Rattle.lock.specs.State.{processors, row}
-use Rattle.lock.proofs.Rows.{length-mapped, row-within}
+use Rattle.lock.proofs.Ground.Rows.{length-mapped, row-within}
 use Rattle.lock.proofs.LockState.sound_rows.Statement.{statement}
 use Rattle.lock.proofs.LockState.sound_rows.Tie as tie
 

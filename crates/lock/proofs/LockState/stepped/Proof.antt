@@ -2,7 +2,7 @@
 use borrow.Author.Needs.{needs}
 use mathlib.Core.Path.{refl}
 use Rattle.lock.specs.Table.{rest, gate, clear, swap, arm, link, claim, spin, settle, inside, poll, service, back, regain, look, close, await, hand, fence, park, peek, take, lift}
-use Rattle.lock.proofs.Places.{at-place, at-nowhere}
+use Rattle.lock.proofs.Ground.Places.{at-place, at-nowhere}
 use Rattle.lock.proofs.LockState.stepped.Statement.{statement}
 use Rattle.lock.proofs.LockState.stepped.Tie as tie
 

@@ -1,5 +1,5 @@
 -- `lock::claims::calls_are_a_run` meets its contract by the law of that name.
-use Rattle.lock.proofs.Callers.{calls-are-a-run}
+use Rattle.lock.proofs.Roof.Callers.{calls-are-a-run}
 use Rattle.lock.proofs.claims.calls_are_a_run.Statement.{statement}
 use Rattle.lock.proofs.claims.calls_are_a_run.Tie as tie
 

@@ -1,5 +1,5 @@
 -- `lock::claims::claims_are_sharp` meets its contract by the law of that name.
-use Rattle.lock.proofs.Witness.{claims-are-sharp}
+use Rattle.lock.proofs.Roof.Witness.{claims-are-sharp}
 use Rattle.lock.proofs.claims.claims_are_sharp.Statement.{statement}
 use Rattle.lock.proofs.claims.claims_are_sharp.Tie as tie
 

@@ -1,5 +1,5 @@
 -- `lock::claims::never_two_inside` meets its contract by the law of that name.
-use Rattle.lock.proofs.Claimed.{never-two-inside}
+use Rattle.lock.proofs.Roof.Claimed.{never-two-inside}
 use Rattle.lock.proofs.claims.never_two_inside.Statement.{statement}
 use Rattle.lock.proofs.claims.never_two_inside.Tie as tie
 

@@ -1,5 +1,5 @@
 -- `lock::claims::never_two_inside_any_edition` meets its contract by the law of that name.
-use Rattle.lock.proofs.Claimed.{never-two-inside-any-edition}
+use Rattle.lock.proofs.Roof.Claimed.{never-two-inside-any-edition}
 use Rattle.lock.proofs.claims.never_two_inside_any_edition.Statement.{statement}
 use Rattle.lock.proofs.claims.never_two_inside_any_edition.Tie as tie
 

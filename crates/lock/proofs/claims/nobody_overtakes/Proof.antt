@@ -1,5 +1,5 @@
 -- `lock::claims::nobody_overtakes` meets its contract by the law of that name.
-use Rattle.lock.proofs.Claimed.{nobody-overtakes}
+use Rattle.lock.proofs.Roof.Claimed.{nobody-overtakes}
 use Rattle.lock.proofs.claims.nobody_overtakes.Statement.{statement}
 use Rattle.lock.proofs.claims.nobody_overtakes.Tie as tie
 

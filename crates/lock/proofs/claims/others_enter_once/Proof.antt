@@ -1,5 +1,5 @@
 -- `lock::claims::others_enter_once` meets its contract by the law of that name.
-use Rattle.lock.proofs.Claimed.{others-enter-once}
+use Rattle.lock.proofs.Roof.Claimed.{others-enter-once}
 use Rattle.lock.proofs.claims.others_enter_once.Statement.{statement}
 use Rattle.lock.proofs.claims.others_enter_once.Tie as tie
 

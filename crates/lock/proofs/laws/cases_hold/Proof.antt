@@ -1,5 +1,5 @@
 -- `lock::laws::cases_hold` meets its contract by the law of that name.
-use Rattle.lock.proofs.Computed.{cases-hold}
+use Rattle.lock.proofs.Roof.Computed.{cases-hold}
 use Rattle.lock.proofs.laws.cases_hold.Statement.{statement}
 use Rattle.lock.proofs.laws.cases_hold.Tie as tie
 

@@ -1,6 +1,6 @@
 -- `lock::sound::has_place` meets its contract: within the table by its rule, outside it no edition has the place.
 use borrow.Author.Needs.{needs}
-use Rattle.lock.proofs.Places.{has-right, has-none, has-beyond}
+use Rattle.lock.proofs.Ground.Editions.{has-right, has-none, has-beyond}
 use Rattle.lock.proofs.sound.has_place.Statement.{statement}
 use Rattle.lock.proofs.sound.has_place.Tie as tie
 

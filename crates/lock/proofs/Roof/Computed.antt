@@ -2,7 +2,7 @@
 use mathlib.Core.Path.{refl}
 use Rattle.lock.specs.Event.{fresh}
 use Rattle.lock.specs.Cases.{places, cases, CasesHold}
-use Rattle.lock.proofs.Opened.{computed}
+use Rattle.lock.proofs.Roof.Opened.{computed}
 
 pub cases-hold : CasesHold
 unfolding computed fresh places cases

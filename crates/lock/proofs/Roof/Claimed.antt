@@ -3,7 +3,8 @@
 use Rattle.lock.specs.Claims.{NeverTwoInside, NeverTwoInsideAnyEdition, NobodyLaterEnters, OthersEnterOnce, WaitsAtMost, NobodyOvertakes}
 use Rattle.lock.proofs.Exclusion.{Excl, excl-fresh, excl-after, excl-inside}
 use Rattle.lock.proofs.Order.Invariant.{Inv, inv-fresh, inv-after, inv-entry}
-use Rattle.lock.proofs.Inside as Inside
+use Rattle.lock.proofs.Waiting.Demand.{others-once}
+use Rattle.lock.proofs.Roof.Inside as Inside
 use Rattle.lock.proofs.Waiting.Demand as Demand
 
 pub never-two-inside : NeverTwoInside

@@ -1,11 +1,11 @@
--- Places by number: the constant table's rule, by one computed test, and the act that a place's number names.
+-- Which places an edition has: the constant table's rule, by one computed test.
 --     has-right      the table of 23 rows and 3 columns is document 01's three lists
 --     has-beyond     no edition has a place past the table
---     at-place       a step at the place k does the act of k's name
---     at-nowhere     a step at a number that is no place does nothing
+--     has-none       no other edition has a place
+--     has-normal     the number may be taken for that of the place which it names
 use Prim.Native.Nat.{ℕ, _<_, _≤_}
 use native.Mathlib.Omega.{arith}
-use mathlib.Core.Path.{_≡_, refl, sym, _∙_, ap}
+use mathlib.Core.Path.{_≡_, refl, sym, subst, _∙_, ap}
 use mathlib.Core.Bool.{Bool, true, false, _&&_, Bool·beq, cond}
 use mathlib.Core.List.{List, [], _∷_}
 use lib.ListN.{getD, List·getD-eq-default}
@@ -14,11 +14,10 @@ use borrow.Author.Tests.{ltb-true, ne-eqb, le-ltb}
 use Rattle.lock.specs.declared.Row.{Row}
 use Rattle.lock.specs.declared.LockState.{LockState}
 use Rattle.choice.specs.Every.{every}
-use Rattle.choice.proofs.Tests.{beq-eq, and-left, and-right}
-use Rattle.choice.proofs.Numbers.{Avoids, avoids-far, every-at}
-use Rattle.lock.specs.State.{row}
+use Rattle.choice.proofs.Tests.{clash, beq-eq, and-left, and-right}
+use Rattle.choice.proofs.Numbers.{every-at}
 use Rattle.lock.specs.Sound.{isIn, plainPlaces, drawnPlaces, hasPlace, places}
-use Rattle.lock.specs.Table.{Place, names, placeAt, act, stepped, nowhere}
+use Rattle.lock.proofs.Ground.Facts.{by-number, normal, normal-within}
 
 -- the code's constant, once more: the check holds the two together at the function that reads it
 abbrev pub has : List (List Bool)
@@ -85,12 +84,9 @@ pub has-none : (e k : ℕ) → 3 ≤ e → false ≡ hasPlace e k
 unfolding hasPlace
 has-none e k h = simp (ne-eqb e 0 (λ q. omega arith), ne-eqb e 1 (λ q. omega arith), ne-eqb e 2 (λ q. omega arith))
 
-pub at-place : (s : LockState) (p k : ℕ) (own : Row) (P : Place) (t : LockState) → own ≡ row s p → own .place ≡ k → placeAt k ≡ P → t ≡ act P s p → t ≡ stepped s p
-unfolding stepped
-at-place s p k own P t e q n d =
-    let number : (row s p) .place ≡ k = ap (λ (r : Row). r .place) (sym e) ∙ q in
-    d ∙ ap (λ (P : Place). act P s p) (sym n ∙ ap placeAt (sym number))
-
-pub at-nowhere : (s : LockState) (p : ℕ) (own : Row) → own ≡ row s p → Avoids (own .place) 23 → s ≡ stepped s p
-at-nowhere s p own e a =
-    at-place s p (own .place) own nowhere s e refl (List·getD-eq-default names nowhere (avoids-far (own .place) 23 a)) refl
+-- an edition has the place at m by m's number, and by that of m's place
+pub has-normal : (e m : ℕ) → hasPlace e m ≡ true → hasPlace e (normal m) ≡ true
+has-normal e m h =
+    by-number (λ m. hasPlace e m ≡ true → hasPlace e (normal m) ≡ true) m
+    (λ within h. subst (λ (k : ℕ). hasPlace e k ≡ true) (sym (normal-within m within)) h)
+    (λ far h. clash h (sym (has-beyond e m far))) h

@@ -17,8 +17,8 @@ use Rattle.lock.specs.Run.{Call, enters}
 use Rattle.lock.specs.Count.{entriesIn, interruptsIn, allEntriesIn}
 use Rattle.lock.specs.Claims.{reached, waited, Ordered, Waits, LastJoin}
 use Rattle.lock.specs.Sharp.{Order, Once, Bound, noInterrupt, oneAtMost, ClaimsAreSharp}
-use Rattle.lock.proofs.Opened.{computed}
-use Rattle.lock.proofs.Claimed.{nobody-later-enters, others-enter-once, waits-at-most}
+use Rattle.lock.proofs.Roof.Opened.{computed}
+use Rattle.lock.proofs.Roof.Claimed.{nobody-later-enters, others-enter-once, waits-at-most}
 
 abbrev step : ℕ → Call
 step p = record { event = 1; processor = p }

@@ -1,4 +1,4 @@
--- Mutual exclusion, the acts that move the token, or go on from where it was moved: 6, 17 and 19 to 22. Each keeps
+-- Mutual exclusion, the acts that pass the token on, or go on from where it was passed: 6, 17 and 19 to 22. Each keeps
 -- the statement that at most one bears the token.
 use Prim.Native.Nat.{ℕ, _<_}
 use mathlib.Core.Path.{_≡_, refl, sym, ap, subst, _∙_}
@@ -9,13 +9,14 @@ use lib.ListN.{length, length-set}
 use borrow.Author.Tests.{eqb-true, not-true}
 use Rattle.lock.specs.declared.Row.{Row}
 use Rattle.lock.specs.declared.LockState.{LockState}
-use Rattle.choice.proofs.Tests.{clash, by-test}
-use Rattle.lock.specs.State.{processors, none, isNone, isPlain, isDrawn, Released, Locked, Preempted, RP, withLocked, withGuard, withPlace, withSucc, withNx, row, putRow, putLocked, putGuard, to, putSucc, putNx}
-use Rattle.lock.proofs.Rows.{rows-put}
-use Rattle.lock.proofs.Order.Writes.{Own, own-start, own-put, own-all, put-all, row-there}
-use Rattle.lock.proofs.Order.Stages.{Stage, claiming, handing, parking, peeking, taking, lifting, stageAt}
-use Rattle.lock.proofs.Exclusion.Token.{locks, bears, Sole, SoleRow, bearsRow, Excl, parked-bears, parked-left, free-locks, parked-locks, quiet, blind}
-use Rattle.lock.proofs.Exclusion.Steps.{still, go, mine, settled, kept-place}
+use Rattle.choice.proofs.Tests.{clash, by-test, by-either}
+use Rattle.lock.specs.State.{processors, none, isNone, isPlain, isDrawn, Released, Locked, Preempted, RP, withLocked, withGuard, row, putRow, putLocked, putGuard, to, putNx}
+use Rattle.lock.specs.Table.{Place, placeAt, claim, hand, park, peek, take, lift}
+use Rattle.lock.proofs.Ground.Rows.{rows-put}
+use Rattle.lock.proofs.Ground.Writes.{Own, own-start, own-all, put-all, row-there, own-locked, own-nx, own-succ, own-to}
+use Rattle.lock.proofs.Ground.Facts.{rel, lag, isBearer, facts, factsAt, bears}
+use Rattle.lock.proofs.Exclusion.Token.{Sole, SoleRow, bearsRow, Excl, parked-bears, parked-left, free-locks, parked-locks, quiet, blind}
+use Rattle.lock.proofs.Exclusion.Steps.{still, go, at, mine, settled, kept-place}
 use Rattle.lock.specs.Acts as Acts
 
 -- a state in which only p's row is still to be written: h is the bearer, p has none or will be the bearer, p's locked
@@ -30,40 +31,44 @@ record Poised (s : LockState) (p h : ℕ) : Type 0 where
 -- p's row is written last
 lands :
     {s t : LockState} {p h : ℕ} {r : Row} → length (s .rows) ≡ processors
-    → ((q : ℕ) → q ≢ p → SoleRow h (s .tail) q (row s q)) → Own s t p r → s .tail ≡ t .tail → SoleRow h (s .tail) p r
+    → ((q : ℕ) → q ≢ p → SoleRow h (s .tail) q (row s q)) → Own s t p r (s .tail) → SoleRow h (s .tail) p r
     → Excl t
-lands {s} {t} {p} {h} rooms others o e mine =
+lands {s} {t} {p} {h} rooms others o mine =
     record {
       rooms = o .rooms ∙ rooms;
       bearer = h;
-      rows = subst (λ (v : ℕ). (q : ℕ) → SoleRow h v q (row t q)) e (own-all (SoleRow h (s .tail)) o mine others);
+      rows = subst (λ (v : ℕ). (q : ℕ) → SoleRow h v q (row t q)) (sym (o .tail)) (own-all (SoleRow h (s .tail)) o mine others);
     }
 
+-- who lifts bears the token only with an nx
+lift-bears : (b : Bool) → isBearer (cond b lag rel) ≡ true → b ≡ false
+lift-bears true u = clash u refl
+lift-bears false u = refl
+
 onward-excl : (s : LockState) (p h : ℕ) → Poised s p h → Excl (Acts.onward s p)
-unfolding Acts.onward to putSucc putRow
+unfolding Acts.onward putRow
 onward-excl s p h w =
     by-test Excl (isNone ((row s p) .nx))
     (λ g.
-    lands (w .rooms) (w .others) (own-put (λ r. withPlace r 0) (own-start s p (w .room))) refl
+    lands (w .rooms) (w .others) (own-to (own-start s p (w .room)) _)
     (record { settled = w .free; one = λ u. clash u refl }))
     (λ g.
-    lands (w .rooms) (w .others) (own-put (λ r. withPlace r 17)
-    (own-put (λ r. withSucc r ((row s p) .nx)) (own-start s p (w .room)))) refl
+    lands (w .rooms) (w .others) (own-to (own-succ (own-start s p (w .room)) _) _)
     (record { settled = w .free; one = λ u. w .right g }))
 
 lift-to-excl : (s : LockState) (p h : ℕ) → Poised s p h → Excl (Acts.toLift s p)
-unfolding Acts.toLift to putRow
+unfolding Acts.toLift putRow
 lift-to-excl s p h w =
     by-test Excl (isDrawn (s .edition)) (λ g. onward-excl s p h w)
     (λ g.
-    lands (w .rooms) (w .others) (own-put (λ r. withPlace r 22) (own-start s p (w .room))) refl
-    (record { settled = w .free; one = λ u. w .right (not-true (isNone ((row s p) .nx)) u) }))
+    lands (w .rooms) (w .others) (own-to (own-start s p (w .room)) _)
+    (record { settled = w .free; one = λ u. w .right (lift-bears (isNone ((row s p) .nx)) u) }))
 
 module _ (s : LockState) (p : ℕ) (x : Excl s) (room : p < length (s .rows)) where
   abbrev R : Row
   R = row s p
 
-  fits : {a : Stage} → stageAt (R .place) ≡ a → locks a (R .locked) ≡ true
+  fits : {a : Place} → placeAt (R .place) ≡ a → (facts a) .locks (R .locked) ≡ true
   fits e = settled s p x room e
 
   -- who bears is the bearer: where p bears, no other does
@@ -85,17 +90,18 @@ module _ (s : LockState) (p : ℕ) (x : Excl s) (room : p < length (s .rows)) wh
       → (s .tail ≢ none) × ((q : ℕ) → Beside p ok q (row (putLocked s y Released) q))
   unfolding putLocked
   taken y ok g own released =
-      let st = stageAt ((row s y) .place) in
+      let m = (row s y) .place in
       let no = isNone ((row s y) .nx) in
-      let was : Sole (x .bearer) (s .tail) y st RP no = rw (eqb-true ((row s y) .locked) RP g) at (x .rows y) in
-      let bore : (y ≡ x .bearer) × (s .tail ≢ none) = was .one (parked-bears st no (was .settled)) in
+      let was : Sole (x .bearer) (s .tail) y (factsAt m) RP no =
+      subst (λ (l : ℕ). Sole (x .bearer) (s .tail) y (factsAt m) l no) (eqb-true ((row s y) .locked) RP g) (x .rows y) in
+      let bore : (y ≡ x .bearer) × (s .tail ≢ none) = was .one (parked-bears m no (was .settled)) in
       let near : y < length (s .rows) = row-there s y (λ e. clash (rw e at g) refl) in (
         bore .1,
-        own-all (Beside p ok) (own-put (λ r. withLocked r Released) (own-start s y near)) (
+        own-all (Beside p ok) (own-locked (own-start s y near) _) (
           λ d. record {
-            settled = free-locks st;
+            settled = free-locks m;
             one = λ u. clash u
-                (not-true (bears st Released no) (parked-left st no (was .settled)));
+                (not-true (bears (factsAt m) Released no) (parked-left m no (was .settled)));
           },
           λ e. released,
         )
@@ -109,56 +115,55 @@ module _ (s : LockState) (p : ℕ) (x : Excl s) (room : p < length (s .rows)) wh
             )),
       )
 
-  pub claim-excl : stageAt (R .place) ≡ claiming → Excl (Acts.claim s p)
-  unfolding Acts.claim to putRow putLocked
+  pub claim-excl : placeAt (R .place) ≡ claim → Excl (Acts.claim s p)
+  unfolding Acts.claim putRow putLocked
   claim-excl e =
       by-test Excl (eqb ((row s (R .pred)) .locked) RP)
       (λ g.
-      let w = taken (R .pred) (λ l. leb l 1) g (fits e) refl in
+      let w = taken (R .pred) (λ l. leb l Locked) g (fits e) refl in
       lands (simp length-set (x .rooms)) (λ q d. w .1 q .0 d)
-      (own-put (λ r. withPlace r 8) (own-start (putLocked s (R .pred) Released) p (rw length-set room))) refl
+      (own-to (own-start (putLocked s (R .pred) Released) p (rw length-set room)) _)
       (record { settled = w .1 p .1 refl; one = λ u. (refl, w .0) }))
-      (λ g. go s p x room 7 e (λ h t f. still f (f .settled) (λ u. u)))
+      (λ g. go s p x room _ e (λ h t f. still f (f .settled) (λ u. u)))
 
   -- p gives its token to y, whose locked becomes v
   given :
-      (y v : ℕ) → bearsRow R ≡ true → eqb (R .locked) 0 ≡ true → locks (stageAt ((row s y) .place)) v ≡ true
+      (y v : ℕ) → bearsRow R ≡ true → eqb (R .locked) 0 ≡ true → (factsAt ((row s y) .place)) .locks v ≡ true
       → (y ≡ p → eqb v 0 ≡ true)
-      → (q : ℕ) → Beside y (λ l. eqb l 0) q (row (putLocked s y v) q)
+      → (q : ℕ) → Beside y (λ l. eqb l Released) q (row (putLocked s y v) q)
   unfolding putLocked
   given y v u free fit self =
-      put-all (Beside y (λ l. eqb l 0)) s y (withLocked (row s y) v)
+      put-all (Beside y (λ l. eqb l Released)) s y (withLocked (row s y) v)
       (λ q. (λ d. alone u y q d, λ e. rw e free))
       (λ d. record { settled = fit; one = λ w. (refl, (x .rows p) .one u .1) }, self)
 
-  handed : stageAt (R .place) ≡ handing → Excl (to (putLocked s (R .succ) Released) p 0)
-  unfolding to putRow putLocked
+  handed : placeAt (R .place) ≡ hand → Excl (to (putLocked s (R .succ) Released) p 0)
+  unfolding putRow putLocked
   handed e =
-      let w = given (R .succ) Released (rw e refl) (fits e) (free-locks (stageAt ((row s (R .succ)) .place)))
+      let w = given (R .succ) Released (rw e refl) (fits e) (free-locks ((row s (R .succ)) .place))
       (λ z. refl) in
       lands (simp length-set (x .rooms)) (λ q d. w q .0 d)
-      (own-put (λ r. withPlace r 0) (own-start (putLocked s (R .succ) Released) p (rw length-set room))) refl
+      (own-to (own-start (putLocked s (R .succ) Released) p (rw length-set room)) _)
       (record { settled = w p .1 refl; one = λ u. clash u refl })
 
-  pub hand-excl : stageAt (R .place) ≡ handing → Excl (Acts.hand s p)
+  pub hand-excl : placeAt (R .place) ≡ hand → Excl (Acts.hand s p)
   unfolding Acts.hand
   hand-excl e =
       by-test Excl (isPlain (s .edition)) (λ g. handed e)
       (λ g.
       by-test Excl (eqb ((row s (R .succ)) .locked) Locked) (λ b. handed e)
-      (λ b. by-next (isDrawn (s .edition))))
-    where
-      by-next : (b : Bool) → Excl (to s p (cond b 19 18))
-      by-next true = go s p x room 19 e (λ h t f. still f (f .settled) (λ u. u))
-      by-next false = go s p x room 18 e (λ h t f. still f (f .settled) (λ u. u))
+      (λ b.
+      by-either (λ k. Excl (to s p k)) (isDrawn (s .edition))
+      (go s p x room _ e (λ h t f. still f (f .settled) (λ u. u)))
+      (go s p x room _ e (λ h t f. still f (f .settled) (λ u. u)))))
 
   -- nx is written: the bearer stays
   nx-poised :
-      (v : ℕ) {a : Stage} → stageAt (R .place) ≡ a → locks a (R .locked) ≡ true → eqb (R .locked) 0 ≡ true
-      → (isNone v ≡ false → bears a (R .locked) (isNone (R .nx)) ≡ true) → Poised (putNx s p v) p (x .bearer)
+      (v : ℕ) {a : Place} → placeAt (R .place) ≡ a → eqb (R .locked) Released ≡ true
+      → (isNone v ≡ false → bears (facts a) (R .locked) (isNone (R .nx)) ≡ true) → Poised (putNx s p v) p (x .bearer)
   unfolding putNx putRow
-  nx-poised v e ok free right =
-      let o = own-put (λ r. withNx r v) (own-start s p room) in
+  nx-poised v e free right =
+      let o = own-nx (own-start s p room) _ in
       record {
         room = o .room;
         rooms = o .rooms ∙ x .rooms;
@@ -167,39 +172,38 @@ module _ (s : LockState) (p : ℕ) (x : Excl s) (room : p < length (s .rows)) wh
         right = rw (o .own) (λ g. (mine s p x room e) .one (right g));
       }
 
-  pub park-excl : stageAt (R .place) ≡ parking → Excl (Acts.park s p)
-  unfolding Acts.park to putRow putLocked
+  pub park-excl : placeAt (R .place) ≡ park → Excl (Acts.park s p)
+  unfolding Acts.park putRow putLocked
   park-excl e =
       by-test Excl (eqb ((row s (R .succ)) .locked) Preempted)
       (λ g.
       let y = R .succ in
       let same : (row s y) .locked ≡ Preempted = eqb-true ((row s y) .locked) Preempted g in
       let w = given y RP (rw e refl) (fits e)
-      (parked-locks (stageAt ((row s y) .place)) (rw same at ((x .rows y) .settled)))
+      (parked-locks ((row s y) .place) (subst (λ (l : ℕ). (factsAt ((row s y) .place)) .locks l ≡ true) same ((x .rows y) .settled)))
       (λ z. clash (rw (sym (ap (λ (q : ℕ). (row s q) .locked) z) ∙ same) at (fits e)) refl) in
       lands (simp length-set (x .rooms)) (λ q d. w q .0 d)
-      (own-put (λ r. withPlace r 20) (own-start (putLocked s y RP) p (rw length-set room))) refl
+      (own-to (own-start (putLocked s y RP) p (rw length-set room)) _)
       (record { settled = w p .1 refl; one = λ u. clash u refl }))
-      (λ g. lift-to-excl (putNx s p (R .succ)) p (x .bearer) (nx-poised (R .succ) e (fits e) (fits e) (λ u. refl)))
+      (λ g. lift-to-excl (putNx s p (R .succ)) p (x .bearer) (nx-poised (R .succ) e (fits e) (λ u. refl)))
 
-  pub peek-excl : stageAt (R .place) ≡ peeking → Excl (Acts.peek s p)
-  unfolding Acts.peek to putRow putNx
+  pub peek-excl : placeAt (R .place) ≡ peek → Excl (Acts.peek s p)
+  unfolding Acts.peek putRow putNx
   peek-excl e =
       by-test Excl (isNone ((row s (R .succ)) .next))
       (λ g.
       lift-to-excl (putNx s p ((row s (R .succ)) .next)) p (x .bearer)
-      (nx-poised ((row s (R .succ)) .next) e (fits e) (fits e) (λ u. clash g u)))
+      (nx-poised ((row s (R .succ)) .next) e (fits e) (λ u. clash g u)))
       (λ g.
-      quiet x (own-put (λ r. withPlace r 21)
-      (own-put (λ r. withNx r ((row s (R .succ)) .next)) (own-start s p room))) refl
-      (λ h t f. let f : Sole h t p peeking (R .locked) (isNone (R .nx)) = rw e at f in still f (f .settled) (λ u. u)))
+      quiet x (own-to (own-nx (own-start s p room) _) _)
+      (λ h t f. let f = at s p x room e f in still f (f .settled) (λ u. u)))
 
-  pub take-excl : stageAt (R .place) ≡ taking → Excl (Acts.take s p)
+  pub take-excl : placeAt (R .place) ≡ take → Excl (Acts.take s p)
   unfolding Acts.take putLocked putRow
   take-excl e =
       by-test Excl (eqb ((row s (R .succ)) .locked) RP)
       (λ g.
-      let w = taken (R .succ) (λ l. eqb l 0) g (fits e) refl in
+      let w = taken (R .succ) (λ l. eqb l Released) g (fits e) refl in
       lift-to-excl (putLocked s (R .succ) Released) p p
       (record {
         room = rw length-set room;
@@ -208,15 +212,15 @@ module _ (s : LockState) (p : ℕ) (x : Excl s) (room : p < length (s .rows)) wh
         free = w .1 p .1 refl;
         right = λ u. (refl, w .0);
       }))
-      (λ g. lift-to-excl (putNx s p none) p (x .bearer) (nx-poised none e (fits e) (fits e) (λ u. clash refl u)))
+      (λ g. lift-to-excl (putNx s p none) p (x .bearer) (nx-poised none e (fits e) (λ u. clash refl u)))
 
-  pub lift-excl : stageAt ((row s p) .place) ≡ lifting → Excl (Acts.lift s p)
+  pub lift-excl : placeAt ((row s p) .place) ≡ lift → Excl (Acts.lift s p)
   unfolding Acts.lift putGuard
   lift-excl e =
       let y = (row s p) .succ in
       let r = withGuard (row s y) false in
       let z : Excl (putRow s y r) = blind y r (λ h t q f. f) x in
-      let f = mine (putRow s y r) p z (rw rows-put room) (ap stageAt (kept-place s y r refl p) ∙ e) in
+      let f = mine (putRow s y r) p z (rw rows-put room) (ap placeAt (kept-place s y r refl p) ∙ e) in
       onward-excl (putRow s y r) p (z .bearer)
       (record {
         room = rw rows-put room;

@@ -1,4 +1,4 @@
--- Who stays in the queue through some calls (Queued): it makes no join and no entry, and is a member after each call.
+-- Who stays in the queue through some calls (StaysIn): it makes no join and no entry, and is a member after each call.
 -- Two ways to see it: one that waits and takes no interrupt (queued-waiting), and one that enters at the end without
 -- having joined again, whatever interrupts it took (queued-to-entry). And the tickets that the calls give out: a
 -- join's is the greatest so far (ticket-joined, ticket-later), and a ticket changes only at an own join
@@ -21,15 +21,15 @@ use Rattle.lock.proofs.Waiting.Stepping.{joins-own, rows-after}
 use Rattle.lock.proofs.Waiting.Moves.{isWaiting, isSpent, entered-is-member, entered-is-spent, spent-stays, joined-waits, waiter-stays, waiter-is-member, waiter-does-not-join}
 use Rattle.lock.proofs.Waiting.Outsiders.{outsider-stays}
 
-abbrev pub Queued : LockState → List Call → ℕ → Type 0
-Queued s [] p = Unit {0}
-Queued s (c ∷ cs) p =
-    (joins s c p ≡ false) × (enters s c p ≡ false) × (isMember (after s c) p ≡ true) × Queued (after s c) cs p
+abbrev pub StaysIn : LockState → List Call → ℕ → Type 0
+StaysIn s [] p = Unit {0}
+StaysIn s (c ∷ cs) p =
+    (joins s c p ≡ false) × (enters s c p ≡ false) × (isMember (after s c) p ≡ true) × StaysIn (after s c) cs p
 
 -- ---- one that waits
 
 pub queued-waiting : (s : LockState) (cs : List Call) (p : ℕ) → length (s .rows) ≡ processors → isWaiting s p ≡ true
-    → entriesIn s cs p ≡ 0 → interruptsIn s cs p ≡ 0 → Queued s cs p
+    → entriesIn s cs p ≡ 0 → interruptsIn s cs p ≡ 0 → StaysIn s cs p
 unfolding entriesIn interruptsIn
 queued-waiting s [] p whole h out calm = tt
 queued-waiting s (c ∷ cs) p whole h out calm =
@@ -46,14 +46,14 @@ queued-waiting s (c ∷ cs) p whole h out calm =
 
 queued-between-by : (s : LockState) (join : Call) (later : List Call) (p : ℕ) (b : Bool) → enters s join p ≡ b
     → length (s .rows) ≡ processors → joins s join p ≡ true
-    → interruptsIn (after s join) (between s join later p) p ≡ 0 → Queued (after s join) (between s join later p) p
+    → interruptsIn (after s join) (between s join later p) p ≡ 0 → StaysIn (after s join) (between s join later p) p
 unfolding between
 queued-between-by s join later p true e whole h calm =
-    subst (λ b. Queued (after s join) (cond b [] (untilEntry (after s join) later p)) p) (sym e) tt
+    subst (λ b. StaysIn (after s join) (cond b [] (untilEntry (after s join) later p)) p) (sym e) tt
 queued-between-by s join later p false e whole h calm =
     let off : cond (enters s join p) [] (untilEntry (after s join) later p) ≡ untilEntry (after s join) later p =
     ap (λ b. cond b [] (untilEntry (after s join) later p)) e in
-    subst (λ cs. Queued (after s join) cs p) (sym off)
+    subst (λ cs. StaysIn (after s join) cs p) (sym off)
     (queued-waiting (after s join) (untilEntry (after s join) later p) p (rows-after s join whole)
     (joined-waits s join whole p h e)
     (until-entry-has-none (after s join) later p) (subst (λ cs. interruptsIn (after s join) cs p ≡ 0) off calm))
@@ -61,7 +61,7 @@ queued-between-by s join later p false e whole h calm =
 -- between its join and its entry, where it takes no interrupt
 pub queued-between :
     (s : LockState) (join : Call) (later : List Call) (p : ℕ) → length (s .rows) ≡ processors → joins s join p ≡ true
-    → interruptsIn (after s join) (between s join later p) p ≡ 0 → Queued (after s join) (between s join later p) p
+    → interruptsIn (after s join) (between s join later p) p ≡ 0 → StaysIn (after s join) (between s join later p) p
 queued-between s join later p whole h calm = queued-between-by s join later p (enters s join p) refl whole h calm
 
 -- ---- one that enters at the end
@@ -113,7 +113,7 @@ module _ (s : LockState) (c : Call) (cs : List Call) (entry : Call) (p : ℕ) (w
       absurd (true≢false (sym entered ∙ outsider-no-entry (after s c) cs entry p (rows-after s c whole) e none))
 
 pub queued-to-entry : (s : LockState) (cs : List Call) (entry : Call) (p : ℕ) → length (s .rows) ≡ processors
-    → joinsIn s (cs ++ entry ∷ []) p ≡ 0 → enters (run s cs) entry p ≡ true → Queued s cs p
+    → joinsIn s (cs ++ entry ∷ []) p ≡ 0 → enters (run s cs) entry p ≡ true → StaysIn s cs p
 unfolding run joinsIn
 queued-to-entry s [] entry p whole none entered = tt
 queued-to-entry s (c ∷ cs) entry p whole none entered =
