@@ -10,29 +10,27 @@ use Prim.Native.Nat.{ℕ, _<_, _≤_}
 use mathlib.Core.Path.{_≡_, refl, sym, ap, subst, _∙_}
 use mathlib.Core.Bool.{true}
 use native.Mathlib.Omega.{arith}
-use lib.Dec.{eqb, leb}
+use lib.Dec.{eqb, ltb}
 use lib.ListN.{length}
 use borrow.Author.Tests.{eqb-true}
 use Rattle.lock.specs.declared.LockState.{LockState}
-use Rattle.lock.specs.State.{processors, isNone, freshState, row, putFlag}
+use Rattle.lock.specs.State.{processors, editions, isNone, freshState, row, putFlag}
 use Rattle.lock.specs.Table.{placeAt, act, stepped, inside}
-use Rattle.lock.specs.Sound.{places}
 use Rattle.lock.specs.Event.{raised}
 use Rattle.lock.specs.Run.{Call, after, isInside}
-use Rattle.lock.proofs.Ground.Places.{Each, begin, _▹_, at-number}
+use Rattle.lock.proofs.Ground.Places.{_▹_, at-number}
 use Rattle.lock.proofs.Ground.Calls.{Kind, idle, raise, step, kind}
 use Rattle.lock.proofs.Ground.Facts.{facts, factsAt}
 use Rattle.lock.proofs.Keeping.Parts.{row-room}
 use Rattle.lock.proofs.Exclusion.Token.{Sole, blind}
-use Rattle.lock.proofs.Exclusion.Steps.{rest-excl, gate-excl, clear-excl, swap-excl, arm-excl, link-excl, spin-excl, settle-excl, inside-excl, poll-excl, service-excl, back-excl, regain-excl, look-excl, close-excl, await-excl, fence-excl}
-use Rattle.lock.proofs.Exclusion.Passing.{claim-excl, hand-excl, park-excl, peek-excl, take-excl, lift-excl}
+use Rattle.lock.proofs.Exclusion.Passing.{acts}
 use Rattle.lock.proofs.Ground.Writes.{fresh-row}
 use Rattle.lock.proofs.Exclusion.Token as Token
 
 pub Excl : LockState → Type 0
 Excl s = Token.Excl s
 
-pub excl-fresh : (e n : ℕ) → leb e 2 ≡ true → 1 ≤ n → n ≤ processors → Excl (freshState e n)
+pub excl-fresh : (e n : ℕ) → ltb e editions ≡ true → 1 ≤ n → n ≤ processors → Excl (freshState e n)
 unfolding Excl freshState
 excl-fresh e n small some many =
     record {
@@ -41,17 +39,6 @@ excl-fresh e n small some many =
       rows = λ q. rw (fresh-row e n q)
           (record { settled = refl; one = λ u. absurd (let z : _≡_ {A = ℕ} 0 1 = cc in omega arith) });
     }
-
--- the act of each place
-acts :
-    (s : LockState) (p : ℕ) → Token.Excl s → p < length (s .rows)
-    → Each (λ m. placeAt ((row s p) .place) ≡ placeAt m → Token.Excl (act (placeAt m) s p)) places
-acts s p x h =
-    begin ▹ rest-excl s p x h ▹ gate-excl s p x h ▹ clear-excl s p x h ▹ swap-excl s p x h ▹ arm-excl s p x h
-    ▹ link-excl s p x h ▹ claim-excl s p x h ▹ spin-excl s p x h ▹ settle-excl s p x h ▹ inside-excl s p x h
-    ▹ poll-excl s p x h ▹ service-excl s p x h ▹ back-excl s p x h ▹ regain-excl s p x h ▹ look-excl s p x h
-    ▹ close-excl s p x h ▹ await-excl s p x h ▹ hand-excl s p x h ▹ fence-excl s p x h ▹ park-excl s p x h
-    ▹ peek-excl s p x h ▹ take-excl s p x h ▹ lift-excl s p x h
 
 pub excl-after : (s : LockState) (c : Call) → Excl s → Excl (after s c)
 unfolding Excl stepped raised putFlag

@@ -4,7 +4,7 @@ use mathlib.Core.Bool.{Bool, true, not, _||_, cond}
 use lib.Dec.{eqb, ltb, leb}
 use Rattle.lock.specs.declared.LockState.{LockState}
 use Rattle.lock.specs.declared.Answer.{Answer}
-use Rattle.lock.specs.State.{processors, freshState, putFlag}
+use Rattle.lock.specs.State.{editions, processors, freshState, putFlag}
 use Rattle.lock.specs.Sound.{sound}
 use Rattle.lock.specs.Table.{stepped}
 
@@ -21,7 +21,7 @@ filler = freshState 0 1
 -- 6: "edition over 2"; 7: "N is 0 or over 16"
 unfoldable pub fresh : ℕ → ℕ → Answer
 fresh e n =
-    cond (ltb 2 e) (refused 6 filler)
+    cond (leb editions e) (refused 6 filler)
     (cond (eqb n 0 || ltb processors n) (refused 7 filler) (accepted (freshState e n)))
 
 -- "Two events: 1 step, 2 raise"

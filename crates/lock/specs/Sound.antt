@@ -6,7 +6,7 @@ use lib.Dec.{eqb, ltb, leb}
 use Rattle.lock.specs.declared.Row.{Row}
 use Rattle.lock.specs.declared.LockState.{LockState}
 use Rattle.choice.specs.Every.{every}
-use Rattle.lock.specs.State.{processors, isNone, isPlain, isDrawn, isGuarded, row}
+use Rattle.lock.specs.State.{processors, editions, isNone, isPlain, isDrawn, isGuarded, RP, row}
 
 -- "23 rows": the places 0 to 22
 abbrev pub places : ℕ
@@ -36,7 +36,7 @@ noneOrBelow n q = isNone q || ltb q n
 -- "L and each next, pred, succ, nx is none or below N; each locked is 0 to 3"
 unfoldable pub cellsSound : ℕ → Row → Bool
 cellsSound n r =
-    noneOrBelow n (r .next) && noneOrBelow n (r .pred) && noneOrBelow n (r .succ) && noneOrBelow n (r .nx) && leb (r .locked) 3
+    noneOrBelow n (r .next) && noneOrBelow n (r .pred) && noneOrBelow n (r .succ) && noneOrBelow n (r .nx) && leb (r .locked) RP
 
 -- "places 4 to 6 have a pred"
 abbrev pub wantsPred : ℕ → Bool
@@ -74,5 +74,5 @@ soundRow s i =
 -- "edition and N are in range; L ... is none or below N", and each of the sixteen rows is sound
 unfoldable pub sound : LockState → Bool
 sound s =
-    leb (s .edition) 2 && leb 1 (s .n) && leb (s .n) processors && noneOrBelow (s .n) (s .tail)
+    ltb (s .edition) editions && leb 1 (s .n) && leb (s .n) processors && noneOrBelow (s .n) (s .tail)
     && every processors (soundRow s)

@@ -19,6 +19,9 @@ abbrev pub isNone : ℕ → Bool
 isNone q = eqb q none
 
 -- "Edition: 0 plain (figure 1), 1 drawn (figure 5), 2 guarded (figure 5 with the Boolean)"
+abbrev pub editions : ℕ
+editions = 3
+
 abbrev pub isPlain : ℕ → Bool
 isPlain e = eqb e 0
 

@@ -23,13 +23,13 @@ impl LockState {
     pub fn fresh(edition: u8, n: u8) -> Answer
         ensures { λ r. ⌜ r ≡ fresh edition n ⌝ }
     {
-        let unknown = 2 < edition;
+        let unknown = LockState::EDITIONS <= edition;
         if unknown {
-            return LockState::fresh_state(0, 1).refused(6);
+            return LockState::fresh_state(LockState::PLAIN, 1).refused(6);
         }
         let outside = (n == 0) | (LockState::PROCESSORS < n);
         if outside {
-            return LockState::fresh_state(0, 1).refused(7);
+            return LockState::fresh_state(LockState::PLAIN, 1).refused(7);
         }
         LockState::fresh_state(edition, n).accepted()
     }
@@ -63,8 +63,8 @@ impl LockState {
     pub fn carried(self, event: u8, p: u8) -> Answer
         ensures { λ r. ⌜ r ≡ carried self event p ⌝ }
     {
-        let step = event == 1;
-        let raise = event == 2;
+        let step = event == LockState::STEP;
+        let raise = event == LockState::RAISE;
         let unknown = !(step | raise);
         if unknown {
             return self.refused(8);
@@ -95,13 +95,13 @@ impl LockState {
     pub fn step(self, p: u8) -> Answer
         ensures { λ r. ⌜ r ≡ happens self 1 p ⌝ }
     {
-        self.event(1, p)
+        self.event(LockState::STEP, p)
     }
 
     // Event 2.
     pub fn raise(self, p: u8) -> Answer
         ensures { λ r. ⌜ r ≡ happens self 2 p ⌝ }
     {
-        self.event(2, p)
+        self.event(LockState::RAISE, p)
     }
 }

@@ -68,12 +68,19 @@ impl LockState {
 
     pub const NONE: u8 = 255;
 
-    // The editions.
+    // The editions, and how many there are.
+    pub const EDITIONS: u8 = 3;
+
     pub const PLAIN: u8 = 0;
 
     pub const DRAWN: u8 = 1;
 
     pub const GUARDED: u8 = 2;
+
+    // The events.
+    pub const STEP: u8 = 1;
+
+    pub const RAISE: u8 = 2;
 
     // What a locked cell may hold; RP is R_P, released while preempted.
     pub const RELEASED: u8 = 0;

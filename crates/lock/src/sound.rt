@@ -8,8 +8,13 @@ ghost use lib.Dec.{ltb};
 ghost use Rattle.choice.specs.Every.{every};
 ghost use Rattle.lock.specs.State.{processors};
 
+// The limits as an array's lengths.
+const EDITIONS: usize = LockState::EDITIONS as usize;
+
+const PLACES: usize = LockState::PLACES as usize;
+
 // Which places an edition has: a row for each place, a column for each edition (plain, drawn, guarded).
-const HAS: [[bool; 3]; 23] = [
+const HAS: [[bool; EDITIONS]; PLACES] = [
     [true, true, true], // 0 rest
     [false, false, true], // 1 gate
     [true, true, true], // 2 clear
@@ -39,7 +44,7 @@ fn has_place(edition: u8, place: u8) -> bool
     ensures { λ b. ⌜ b ≡ Sound.hasPlace edition place ⌝ }
 {
     if place < LockState::PLACES {
-        if edition < 3 {
+        if edition < LockState::EDITIONS {
             return HAS[place as usize][edition as usize];
         }
     }
@@ -65,7 +70,7 @@ fn cells_sound(n: u8, r: Row) -> bool
         & none_or_below(n, r.pred)
         & none_or_below(n, r.succ)
         & none_or_below(n, r.nx)
-        & (r.locked <= 3)
+        & (r.locked <= LockState::RP)
 }
 
 fn place_sound(edition: u8, r: Row) -> bool
@@ -82,7 +87,7 @@ fn as_fresh(r: Row) -> bool
     ensures { λ b. ⌜ b ≡ Sound.asFresh r ⌝ }
 {
     (r.next == LockState::NONE)
-        & (r.locked == 0)
+        & (r.locked == LockState::RELEASED)
         & !r.guard
         & !r.flag
         & (r.place == 0)
@@ -121,7 +126,7 @@ impl LockState {
     pub fn is_sound(self) -> bool
         ensures { λ b. ⌜ b ≡ Sound.sound self ⌝ }
     {
-        (self.edition <= 2)
+        (self.edition < LockState::EDITIONS)
             & (1 <= self.n)
             & (self.n <= LockState::PROCESSORS)
             & none_or_below(self.n, self.tail)

@@ -1,5 +1,5 @@
 -- Mutual exclusion, the acts that pass the token on, or go on from where it was passed: 6, 17 and 19 to 22. Each keeps
--- the statement that at most one bears the token.
+-- the statement that at most one bears the token. At the end `acts`: all acts, in the order of their places.
 use Prim.Native.Nat.{ℕ, _<_}
 use mathlib.Core.Path.{_≡_, refl, sym, ap, subst, _∙_}
 use mathlib.Core.Bool.{Bool, true, false, cond}
@@ -11,12 +11,14 @@ use Rattle.lock.specs.declared.Row.{Row}
 use Rattle.lock.specs.declared.LockState.{LockState}
 use Rattle.choice.proofs.Tests.{clash, by-test, by-either}
 use Rattle.lock.specs.State.{processors, none, isNone, isPlain, isDrawn, Released, Locked, Preempted, RP, withLocked, withGuard, row, putRow, putLocked, putGuard, to, putNx}
-use Rattle.lock.specs.Table.{Place, placeAt, claim, hand, park, peek, take, lift}
+use Rattle.lock.specs.Table.{Place, placeAt, act, claim, hand, park, peek, take, lift}
+use Rattle.lock.specs.Sound.{places}
 use Rattle.lock.proofs.Ground.Rows.{rows-put}
 use Rattle.lock.proofs.Ground.Writes.{Own, own-start, own-all, put-all, row-there, own-locked, own-nx, own-succ, own-to}
 use Rattle.lock.proofs.Ground.Facts.{rel, lag, isBearer, facts, factsAt, bears}
 use Rattle.lock.proofs.Exclusion.Token.{Sole, SoleRow, bearsRow, Excl, parked-bears, parked-left, free-locks, parked-locks, quiet, blind}
-use Rattle.lock.proofs.Exclusion.Steps.{still, go, at, mine, settled, kept-place}
+use Rattle.lock.proofs.Exclusion.Steps.{still, go, at, mine, settled, kept-place, rest-excl, gate-excl, clear-excl, swap-excl, arm-excl, link-excl, spin-excl, settle-excl, inside-excl, poll-excl, service-excl, back-excl, regain-excl, look-excl, close-excl, await-excl, fence-excl}
+use Rattle.lock.proofs.Ground.Places.{Each, begin, _▹_}
 use Rattle.lock.specs.Acts as Acts
 
 -- a state in which only p's row is still to be written: h is the bearer, p has none or will be the bearer, p's locked
@@ -229,3 +231,14 @@ module _ (s : LockState) (p : ℕ) (x : Excl s) (room : p < length (s .rows)) wh
         free = f .settled;
         right = λ g. f .one (rw g refl);
       })
+
+-- the act of each place
+pub acts :
+    (s : LockState) (p : ℕ) → Excl s → p < length (s .rows)
+    → Each (λ m. placeAt ((row s p) .place) ≡ placeAt m → Excl (act (placeAt m) s p)) places
+acts s p x h =
+    begin ▹ rest-excl s p x h ▹ gate-excl s p x h ▹ clear-excl s p x h ▹ swap-excl s p x h ▹ arm-excl s p x h
+    ▹ link-excl s p x h ▹ claim-excl s p x h ▹ spin-excl s p x h ▹ settle-excl s p x h ▹ inside-excl s p x h
+    ▹ poll-excl s p x h ▹ service-excl s p x h ▹ back-excl s p x h ▹ regain-excl s p x h ▹ look-excl s p x h
+    ▹ close-excl s p x h ▹ await-excl s p x h ▹ hand-excl s p x h ▹ fence-excl s p x h ▹ park-excl s p x h
+    ▹ peek-excl s p x h ▹ take-excl s p x h ▹ lift-excl s p x h

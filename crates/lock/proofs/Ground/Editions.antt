@@ -16,6 +16,7 @@ use Rattle.lock.specs.declared.LockState.{LockState}
 use Rattle.choice.specs.Every.{every}
 use Rattle.choice.proofs.Tests.{clash, beq-eq, and-left, and-right}
 use Rattle.choice.proofs.Numbers.{every-at}
+use Rattle.lock.specs.State.{editions, isPlain, isDrawn, isGuarded}
 use Rattle.lock.specs.Sound.{isIn, plainPlaces, drawnPlaces, hasPlace, places}
 use Rattle.lock.proofs.Ground.Facts.{by-number, normal, normal-within}
 
@@ -47,14 +48,14 @@ has =
     ∷ (false ∷ false ∷ true ∷ [])
     ∷ []
 
-all-right : every 23 (λ k. every 3 (λ e. Bool·beq (getD (getD has k []) e false) (hasPlace e k))) ≡ true
+all-right : every places (λ k. every editions (λ e. Bool·beq (getD (getD has k []) e false) (hasPlace e k))) ≡ true
 unfolding every hasPlace
 all-right = refl
 
-pub has-right : (e k : ℕ) → k < 23 → e < 3 → getD (getD has k []) e false ≡ hasPlace e k
+pub has-right : (e k : ℕ) → k < places → e < editions → getD (getD has k []) e false ≡ hasPlace e k
 has-right e k hk he =
     let f : ℕ → ℕ → Bool = λ k e. Bool·beq (getD (getD has k []) e false) (hasPlace e k) in
-    beq-eq _ _ (every-at 3 (f k) (every-at 23 (λ k. every 3 (f k)) all-right k hk) e he)
+    beq-eq _ _ (every-at editions (f k) (every-at places (λ k. every editions (f k)) all-right k hk) e he)
 
 -- every number of the list is below b
 abbrev below : ℕ → List ℕ → Bool
@@ -74,13 +75,13 @@ past false true c x y z ex ey ez = sym ey
 past false false true x y z ex ey ez = sym ez
 past false false false x y z ex ey ez = refl
 
-pub has-beyond : (e k : ℕ) → 23 ≤ k → false ≡ hasPlace e k
+pub has-beyond : (e k : ℕ) → places ≤ k → false ≡ hasPlace e k
 unfolding hasPlace
 has-beyond e k h =
-    past (eqb e 0) (eqb e 1) (eqb e 2) (isIn plainPlaces k) (isIn drawnPlaces k) (ltb k places)
-    (not-in 23 k plainPlaces refl h) (not-in 23 k drawnPlaces refl h) (le-ltb k 23 h)
+    past (isPlain e) (isDrawn e) (isGuarded e) (isIn plainPlaces k) (isIn drawnPlaces k) (ltb k places)
+    (not-in places k plainPlaces refl h) (not-in places k drawnPlaces refl h) (le-ltb k places h)
 
-pub has-none : (e k : ℕ) → 3 ≤ e → false ≡ hasPlace e k
+pub has-none : (e k : ℕ) → editions ≤ e → false ≡ hasPlace e k
 unfolding hasPlace
 has-none e k h = simp (ne-eqb e 0 (λ q. omega arith), ne-eqb e 1 (λ q. omega arith), ne-eqb e 2 (λ q. omega arith))
 

@@ -1,8 +1,7 @@
--- Places by name and by number, and what holds of every place by one computed test.
---     number, normal     the number of a place; and of the place at m, which is m unless m is no place
---     number-test        the number of the place at m is v exactly when m is v
---     at-every           a test of numbers that computes to true at each place's number, and at nowhere's, holds at any place
---     Each, at-number    a law of each place, in the order of their numbers, is a law of the place at m
+-- Places by number: laws place by place, and the act that a number names. What each place is stands in Facts.
+--     place-far          a number that is no place is nowhere's
+--     Each, each         laws of each place, in the order of their numbers, make a law of every number
+--     at-number          the same of the place at m
 --     at-place           a step at the place k does the act of k's name
 --     at-nowhere         a step at a number that is no place does nothing
 use Prim.Native.Nat.{ℕ, zero, suc, _+_, _≤_, _<_}
@@ -39,12 +38,16 @@ law-at begin m h = absurd (not-suc-le-zero h)
 law-at (laws ▹ law) m h =
     ⊎-elim (λ same. rw same law) (λ less. law-at laws m less) (eq-or-lt-of-le (le-of-suc-le-suc h))
 
-pub at-number : (F : Place → Type 0) → Each (λ m. F (placeAt m)) places → F nowhere → (m : ℕ) → F (placeAt m)
-at-number F laws far m = by (ltb m places) refl
+-- a law of every number, from that of each place and that of a number that is no place
+pub each : (F : ℕ → Type 0) → Each F places → ((m : ℕ) → places ≤ m → F m) → (m : ℕ) → F m
+each F laws far m = by (ltb m places) refl
   where
-    by : (b : Bool) → ltb m places ≡ b → F (placeAt m)
+    by : (b : Bool) → ltb m places ≡ b → F m
     by true e = law-at laws m (ltb-true m places e)
-    by false e = subst F (sym (place-far m (ltb-false m places e))) far
+    by false e = far m (ltb-false m places e)
+
+pub at-number : (F : Place → Type 0) → Each (λ m. F (placeAt m)) places → F nowhere → (m : ℕ) → F (placeAt m)
+at-number F laws far = each (λ m. F (placeAt m)) laws (λ m h. subst F (sym (place-far m h)) far)
 
 -- ---- the act of a place
 

@@ -18,7 +18,7 @@ use Rattle.lock.specs.declared.LockState.{LockState}
 use Rattle.choice.specs.Every.{every}
 use Rattle.choice.proofs.Numbers.{every-from, every-at, by-same}
 use Rattle.choice.proofs.Tests.{and-left, and-right, and-both}
-use Rattle.lock.specs.State.{processors, isNone, row}
+use Rattle.lock.specs.State.{processors, editions, isNone, RP, row}
 use Rattle.lock.specs.Sound.{noneOrBelow, isThere, wantsPred, wantsSucc, wantsNx, hasPlace, cellsSound, placeSound, asFresh, soundRow, sound}
 use Rattle.lock.specs.Kept.{Whole}
 
@@ -47,7 +47,7 @@ pub record Cells (n w x y z l : ℕ) : Type 0 where
   pub pred : noneOrBelow n x ≡ true
   pub succ : noneOrBelow n y ≡ true
   pub nx : noneOrBelow n z ≡ true
-  pub locked : leb l 3 ≡ true
+  pub locked : leb l RP ≡ true
 
 abbrev pub CellsIn : ℕ → Row → Type 0
 CellsIn n r = Cells n (r .next) (r .pred) (r .succ) (r .nx) (r .locked)
@@ -60,7 +60,7 @@ pub record Fits (e n p i : ℕ) (r : Row) : Type 0 where
 
 pub record ButPlace (s : LockState) (p : ℕ) : Type 0 where
   pub rooms : length (s .rows) ≡ processors
-  pub small : leb (s .edition) 2 ≡ true
+  pub small : ltb (s .edition) editions ≡ true
   pub least : leb 1 (s .n) ≡ true
   pub most : leb (s .n) processors ≡ true
   pub tail : noneOrBelow (s .n) (s .tail) ≡ true
@@ -90,14 +90,14 @@ cells-from : (n : ℕ) (r : Row) → cellsSound n r ≡ true → CellsIn n r
 unfolding cellsSound
 cells-from n r h =
     let f : ℕ → Bool = noneOrBelow n in
-    let c = parts (f (r .next)) (f (r .pred)) (f (r .succ)) (f (r .nx)) (leb (r .locked) 3) h in
+    let c = parts (f (r .next)) (f (r .pred)) (f (r .succ)) (f (r .nx)) (leb (r .locked) RP) h in
     record { next = c .0; pred = c .1; succ = c .2; nx = c .3; locked = c .4 }
 
 cells-sound : (n : ℕ) (r : Row) → CellsIn n r → cellsSound n r ≡ true
 unfolding cellsSound
 cells-sound n r c =
     let f : ℕ → Bool = noneOrBelow n in
-    joint (f (r .next)) (f (r .pred)) (f (r .succ)) (f (r .nx)) (leb (r .locked) 3)
+    joint (f (r .next)) (f (r .pred)) (f (r .succ)) (f (r .nx)) (leb (r .locked) RP)
     (c .next) (c .pred) (c .succ) (c .nx) (c .locked)
 
 place-tells : (e : ℕ) (r : Row) → placeSound e r ≡ true → (hasPlace e (r .place) ≡ true) × HasIn (standing (r .place)) r
@@ -116,9 +116,9 @@ fresh-place r h =
     let a = isNone (r .next) && eqb (r .locked) 0 && not (r .guard) && not (r .flag) in
     eqb-true (r .place) 0 (parts a (eqb (r .place) 0) (isNone (r .pred)) (isNone (r .succ)) (isNone (r .nx)) h .1)
 
-rest-has : (e : ℕ) → leb e 2 ≡ true → hasPlace e 0 ≡ true
+rest-has : (e : ℕ) → ltb e editions ≡ true → hasPlace e 0 ≡ true
 unfolding every hasPlace
-rest-has e small = let low : e ≤ 2 = leb-true e 2 small in every-at 3 (λ e. hasPlace e 0) refl e (omega arith)
+rest-has e small = every-at editions (λ e. hasPlace e 0) refl e (ltb-true e editions small)
 
 module _ (s : LockState) where
   -- short for this section
@@ -131,10 +131,10 @@ module _ (s : LockState) where
   -- the parts of a sound state, and of its rows below N and from N on
   module _ (h : sound s ≡ true) where
     ranges :
-        (leb e 2 ≡ true) × (leb 1 n ≡ true) × (leb n processors ≡ true) × (noneOrBelow n (s .tail) ≡ true)
+        (ltb e editions ≡ true) × (leb 1 n ≡ true) × (leb n processors ≡ true) × (noneOrBelow n (s .tail) ≡ true)
         × (every processors (soundRow s) ≡ true)
     unfolding sound
-    ranges = parts (leb e 2) (leb 1 n) (leb n processors) (noneOrBelow n (s .tail)) (every processors (soundRow s)) h
+    ranges = parts (ltb e editions) (leb 1 n) (leb n processors) (noneOrBelow n (s .tail)) (every processors (soundRow s)) h
 
     row-below : (i : ℕ) → i < n → cellsSound n (row s i) && placeSound e (row s i) ≡ true
     unfolding soundRow
@@ -208,7 +208,7 @@ whole {s} {p} x h =
     record {
       rooms = x .rooms;
       fit =
-          joint (leb (s .edition) 2) (leb 1 (s .n)) (leb (s .n) processors) (noneOrBelow (s .n) (s .tail))
+          joint (ltb (s .edition) editions) (leb 1 (s .n)) (leb (s .n) processors) (noneOrBelow (s .n) (s .tail))
           (every processors (soundRow s)) (x .small) (x .least) (x .most) (x .tail)
           (every-from processors (soundRow s)
           (λ i room. row-sound s p i (ltb i (s .n)) refl (x .rows i) (every-place x h i) room));

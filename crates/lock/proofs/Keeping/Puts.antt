@@ -13,14 +13,14 @@ use mathlib.Core.Bool.{Bool, true, false, not, _&&_, _||_, false≢true}
 use mathlib.Core.Logic.{_≢_}
 use native.Mathlib.Omega.{arith}
 use lib.ListN.{length}
-use lib.Dec.{leb}
+use lib.Dec.{leb, ltb}
 use borrow.Author.Tests.{ltb-true, leb-true, not-true}
 use Rattle.lock.specs.declared.Row.{Row}
 use Rattle.lock.specs.declared.LockState.{LockState}
 use Rattle.choice.specs.Every.{every}
 use Rattle.choice.proofs.Tests.{and-both}
 use Rattle.choice.proofs.Numbers.{by-same, every-at}
-use Rattle.lock.specs.State.{processors, isNone, row, putRow, withNext, withLocked, withGuard, withFlag, withPlace, withPred, withSucc, withNx, putTail, putNext, putLocked, putGuard, putFlag, to, putPred, putSucc, putNx}
+use Rattle.lock.specs.State.{processors, editions, isNone, RP, row, putRow, withNext, withLocked, withGuard, withFlag, withPlace, withPred, withSucc, withNx, putTail, putNext, putLocked, putGuard, putFlag, to, putPred, putSucc, putNx}
 use Rattle.lock.specs.Sound.{noneOrBelow, isThere, placeSound}
 use Rattle.lock.specs.Kept.{Whole}
 use Rattle.lock.proofs.Ground.Rows.{rows-put, row-put-same, row-put-other}
@@ -111,7 +111,7 @@ module _ {s : LockState} {p : ℕ} {k : Known} (x : Ready s p k) where
       near-put q (withNext (row s q) v) below
       (record { next = h; pred = c .pred; succ = c .succ; nx = c .nx; locked = c .locked }) (λ f. f) (λ f. f)
 
-  pub put-locked : (q v : ℕ) → q < s .n → leb v 3 ≡ true → Ready (putLocked s q v) p k
+  pub put-locked : (q v : ℕ) → q < s .n → leb v RP ≡ true → Ready (putLocked s q v) p k
   unfolding putLocked placeSound
   put-locked q v below h =
       let c = x .base .rows q .cells below in
@@ -189,16 +189,16 @@ pred-below {s} {p} {k} x e = there-below (s .n) ((row s p) .pred) (k .pred) e (o
 pub succ-below : {s : LockState} {p : ℕ} {k : Known} → Ready s p k → k .succ ≡ true → (row s p) .succ < s .n
 succ-below {s} {p} {k} x e = there-below (s .n) ((row s p) .succ) (k .succ) e (own-cells x .succ) (x .own .succ)
 
--- The place that f gives for the edition suits what is known: each edition that may be has it, and the cells that it
--- wants are known to be there. It computes.
-abbrev suitsIn : Known → (ℕ → ℕ) → ℕ → Bool
-suitsIn k f e =
-    let w = standing (f e) in
+-- The place v suits what is known: each edition that may be has it, and the cells that it wants are known to be there. It
+-- computes.
+abbrev suitsIn : Known → ℕ → ℕ → Bool
+suitsIn k v e =
+    let w = standing v in
     not (k .editions e)
     || (w .editions e && (not (w .pred) || k .pred) && (not (w .succ) || k .succ) && (not (w .nx) || k .nx))
 
-unfoldable pub suits : Known → (ℕ → ℕ) → Bool
-suits k f = every 3 (suitsIn k f)
+unfoldable pub suits : Known → ℕ → Bool
+suits k v = every editions (suitsIn k v)
 
 -- what is wanted is known, what is known is there: what is wanted is there
 wanted-there : (a b c : Bool) → not a || b ≡ true → not b || c ≡ true → not a || c ≡ true
@@ -207,16 +207,16 @@ wanted-there true false c h j = absurd (false≢true h)
 wanted-there false b c h j = refl
 
 pub suited :
-    (k : Known) (f : ℕ → ℕ) (e : ℕ) (r : Row) → suits k f ≡ true → leb e 2 ≡ true → k .editions e ≡ true → HasIn k r
-    → placeSound e (withPlace r (f e)) ≡ true
+    (k : Known) (v e : ℕ) (r : Row) → suits k v ≡ true → ltb e editions ≡ true → k .editions e ≡ true → HasIn k r
+    → placeSound e (withPlace r v) ≡ true
 unfolding suits placeSound
-suited k f e r h small edition has =
-    let w = standing (f e) in
+suited k v e r h small edition has =
+    let w = standing v in
     let b = not (w .pred) || k .pred in
     let c = not (w .succ) || k .succ in
     let d = not (w .nx) || k .nx in
-    let low : e ≤ 2 = leb-true e 2 small in
-    let t : w .editions e && b && c && d ≡ true = rw edition at (every-at 3 (suitsIn k f) h e (omega arith)) in
+    let t : w .editions e && b && c && d ≡ true =
+    rw edition at (every-at editions (suitsIn k v) h e (ltb-true e editions small)) in
     let told = parts true (w .editions e) b c d t in
     joint true (w .editions e) (isThere (w .pred) (r .pred)) (isThere (w .succ) (r .succ)) (isThere (w .nx) (r .nx))
     refl (told .1)
@@ -231,13 +231,11 @@ own-whole :
 unfolding putRow
 own-whole x r cells h = whole (own-put x r cells) (rw (own-row x r) h)
 
-pub lands :
-    {s : LockState} {p : ℕ} {k : Known} (f : ℕ → ℕ) → Ready s p k → suits k f ≡ true
-    → Whole (to s p (f (s .edition)))
+pub lands : {s : LockState} {p : ℕ} {k : Known} (v : ℕ) → Ready s p k → suits k v ≡ true → Whole (to s p v)
 unfolding to
-lands {s} {p} {k} f x h =
-    own-whole (x .base) (withPlace (row s p) (f (s .edition))) (own-cells x)
-    (suited k f (s .edition) (row s p) h (x .base .small) (x .edition) (x .own))
+lands {s} {p} {k} v x h =
+    own-whole (x .base) (withPlace (row s p) v) (own-cells x)
+    (suited k v (s .edition) (row s p) h (x .base .small) (x .edition) (x .own))
 
 pub flag-kept : {s : LockState} {p : ℕ} (v : Bool) → Whole s → p < s .n → Whole (putFlag s p v)
 unfolding putFlag placeSound

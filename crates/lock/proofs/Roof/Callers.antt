@@ -1,22 +1,22 @@
 -- Any sequence of calls of the library's `event` from `LockState::fresh` is a run of the step table
 -- (calls-are-a-run). In order: what the fresh state's refusals leave, and one more call at the end of a run.
-use Prim.Native.Nat.{ℕ, zero, suc, _≤_}
+use Prim.Native.Nat.{ℕ, zero, suc, _<_, _≤_}
 use native.Mathlib.Omega.{arith}
 use mathlib.Core.Path.{_≡_, refl, sym, ap, _∙_, subst}
 use mathlib.Core.Bool.{Bool, true, false, _||_, cond}
 use mathlib.Core.List.{[], _∷_}
-use lib.Dec.{eqb, ltb}
-use borrow.Author.Tests.{ltb-false, eqb-false}
+use lib.Dec.{eqb, ltb, leb}
+use borrow.Author.Tests.{ltb-false, leb-false, eqb-false}
 use Rattle.lock.specs.declared.LockState.{LockState}
 use Rattle.lock.specs.declared.Answer.{Answer}
-use Rattle.lock.specs.State.{processors, isPlain, isDrawn, isGuarded, freshState}
+use Rattle.lock.specs.State.{processors, editions, isPlain, isDrawn, isGuarded, freshState}
 use Rattle.lock.specs.Event.{accepted, refused, filler, fresh}
 use Rattle.lock.specs.Run.{after, run}
 use Rattle.lock.specs.Claims.{made, answered, IsRun, CallsAreARun}
 use Rattle.lock.proofs.Waiting.Counting.{run-append}
 
--- an edition not over 2 is one of the three
-edition-named : (e : ℕ) → e ≤ 2 → (isPlain e || isDrawn e || isGuarded e) ≡ true
+-- an edition that there is is one of the three
+edition-named : (e : ℕ) → e < editions → (isPlain e || isDrawn e || isGuarded e) ≡ true
 edition-named zero h = refl
 edition-named (suc zero) h = refl
 edition-named (suc (suc zero)) h = refl
@@ -27,18 +27,18 @@ abbrev freshBy : Bool → Bool → Bool → LockState → Answer
 freshBy over nobody many s = cond over (refused 6 filler) (cond (nobody || many) (refused 7 filler) (accepted s))
 
 module _ (e n : ℕ) where
-  fresh-by : (over nobody many : Bool) → ltb 2 e ≡ over → eqb n 0 ≡ nobody → ltb processors n ≡ many
+  fresh-by : (over nobody many : Bool) → leb editions e ≡ over → eqb n 0 ≡ nobody → ltb processors n ≡ many
       → (fresh e n) .refusal ≡ 0 → IsRun e n [] ((fresh e n) .state)
   unfolding fresh run
   fresh-by over nobody many f g h = by over nobody many f g h
     where
       told :
-          (over nobody many : Bool) → ltb 2 e ≡ over → eqb n 0 ≡ nobody → ltb processors n ≡ many
+          (over nobody many : Bool) → leb editions e ≡ over → eqb n 0 ≡ nobody → ltb processors n ≡ many
           → fresh e n ≡ freshBy over nobody many (freshState e n)
       told over nobody many f g h = λ i. freshBy (f i) (g i) (h i) (freshState e n)
 
       by :
-          (over nobody many : Bool) → ltb 2 e ≡ over → eqb n 0 ≡ nobody → ltb processors n ≡ many
+          (over nobody many : Bool) → leb editions e ≡ over → eqb n 0 ≡ nobody → ltb processors n ≡ many
           → (fresh e n) .refusal ≡ 0 → IsRun e n [] ((fresh e n) .state)
       by true nobody many f g h ok =
           let six : _≡_ {A = ℕ} 6 0 = sym (ap (λ a. a .refusal) (told true nobody many f g h)) ∙ ok in absurd
@@ -55,7 +55,7 @@ module _ (e n : ℕ) where
             range =
                 record {
                   edition = edition-named e
-                      (ltb-false 2 e f);
+                      (leb-false editions e f);
                   least = omega arith;
                   most = ltb-false processors n h;
                 };
@@ -66,7 +66,7 @@ pub calls-are-a-run : CallsAreARun
 unfolding run after
 calls-are-a-run e n calls s (made a is ok) =
     subst (λ b. IsRun e n [] (b .state)) (sym is)
-    (fresh-by e n (ltb 2 e) (eqb n 0) (ltb processors n) refl refl refl (ap (λ b. b .refusal) (sym is) ∙ ok))
+    (fresh-by e n (leb editions e) (eqb n 0) (ltb processors n) refl refl refl (ap (λ b. b .refusal) (sym is) ∙ ok))
 calls-are-a-run e n calls s (answered earlier t c a held is) =
     let so : IsRun e n earlier t = calls-are-a-run e n earlier t held in
     record {

@@ -1,27 +1,27 @@
 -- Never two inside, over any run, from an invariant of states that holds at fresh, is kept by every call and says so
 -- of one state. Once over the edition: the plain and the guarded edition are two of the three.
 use Prim.Native.Nat.{ℕ, _≤_}
-use native.Mathlib.Omega.{arith}
 use mathlib.Core.Path.{_≡_, refl}
-use mathlib.Core.Bool.{Bool, true, false, _||_, false≢true}
-use mathlib.Core.List.{List, [], _∷_}
-use lib.Dec.{leb}
-use borrow.Author.Tests.{eqb-true, le-leb}
-use Rattle.lock.specs.declared.LockState.{LockState}
-use Rattle.lock.specs.State.{processors, isPlain, isDrawn, isGuarded, freshState}
+use mathlib.Core.Bool.{Bool, true, false, _||_}
+use Rattle.choice.proofs.Tests.{clash}
+use Rattle.lock.specs.State.{processors, editions, isPlain, isDrawn, isGuarded, freshState}
 use Rattle.lock.specs.Run.{Call, after, run, isInside}
 use Rattle.lock.specs.Claims.{reached, Ordered, AnyEdition, NeverTwoInside, NeverTwoInsideAnyEdition}
+use mathlib.Core.List.{List, [], _∷_}
+use lib.Dec.{ltb}
+use borrow.Author.Tests.{eqb-true}
+use Rattle.lock.specs.declared.LockState.{LockState}
 
--- an edition that is named is not over 2
+-- an edition that is named is one of those that there are
 edition-within-by : (e : ℕ) (plain drawn guarded : Bool) → isPlain e ≡ plain → isDrawn e ≡ drawn → isGuarded e ≡ guarded
-    → (plain || drawn || guarded) ≡ true → e ≤ 2
-edition-within-by e true drawn guarded f g h k = let is : e ≡ 0 = eqb-true e 0 f in omega arith
-edition-within-by e false true guarded f g h k = let is : e ≡ 1 = eqb-true e 1 g in omega arith
-edition-within-by e false false true f g h k = let is : e ≡ 2 = eqb-true e 2 h in omega arith
-edition-within-by e false false false f g h k = absurd (false≢true k)
+    → (plain || drawn || guarded) ≡ true → ltb e editions ≡ true
+edition-within-by e true drawn guarded f g h k = rw (eqb-true e 0 f) refl
+edition-within-by e false true guarded f g h k = rw (eqb-true e 1 g) refl
+edition-within-by e false false true f g h k = rw (eqb-true e 2 h) refl
+edition-within-by e false false false f g h k = clash k refl
 
-edition-within : (e : ℕ) → (isPlain e || isDrawn e || isGuarded e) ≡ true → leb e 2 ≡ true
-edition-within e h = le-leb e 2 (edition-within-by e (isPlain e) (isDrawn e) (isGuarded e) refl refl refl h)
+edition-within : (e : ℕ) → (isPlain e || isDrawn e || isGuarded e) ≡ true → ltb e editions ≡ true
+edition-within e h = edition-within-by e (isPlain e) (isDrawn e) (isGuarded e) refl refl refl h
 
 -- plain or guarded is one of the three
 ordered-any-by : (plain drawn guarded : Bool) → (plain || guarded) ≡ true → (plain || drawn || guarded) ≡ true
@@ -39,7 +39,7 @@ ordered-any e n h =
     }
 
 module _ (Excl : LockState → Type 0)
-    (excl-fresh : (e n : ℕ) → leb e 2 ≡ true → 1 ≤ n → n ≤ processors → Excl (freshState e n))
+    (excl-fresh : (e n : ℕ) → ltb e editions ≡ true → 1 ≤ n → n ≤ processors → Excl (freshState e n))
     (excl-after : (s : LockState) (c : Call) → Excl s → Excl (after s c))
     (excl-inside : (s : LockState) (p q : ℕ) → Excl s → isInside s p ≡ true → isInside s q ≡ true → p ≡ q) where
   excl-run : (s : LockState) (cs : List Call) → Excl s → Excl (run s cs)

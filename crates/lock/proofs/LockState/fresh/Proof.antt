@@ -1,4 +1,4 @@
--- `lock::LockState::fresh` meets its contract: the tests that led to a return cond the definition's case.
+-- `lock::LockState::fresh` meets its contract: the tests that led to a return pick the definition's case.
 use borrow.Author.Needs.{needs}
 use Rattle.lock.specs.Event.{fresh}
 use Rattle.lock.proofs.LockState.fresh.Statement.{statement}
