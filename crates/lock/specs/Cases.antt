@@ -9,15 +9,9 @@ use Rattle.lock.specs.declared.Row.{Row}
 use Rattle.lock.specs.declared.LockState.{LockState}
 use Rattle.lock.specs.declared.Answer.{Answer}
 use Rattle.choice.specs.Every.{every}
-use Rattle.lock.specs.State.{processors, none, RP, Preempted, row}
+use Rattle.lock.specs.State.{processors, none, guarded, RP, Preempted, row}
 use Rattle.lock.specs.Event.{fresh, happens}
 use Rattle.lock.specs.Run.{Call, after, run}
-
-abbrev pub plain : ℕ
-plain = 0
-
-abbrev pub guarded : ℕ
-guarded = 2
 
 abbrev pub step : ℕ → Call
 step p = record { event = 1; processor = p }
@@ -27,7 +21,7 @@ raise p = record { event = 2; processor = p }
 
 -- k steps of p
 abbrev pub steps : ℕ → ℕ → List Call
-steps k p = replicate k (step p)
+steps p k = replicate k (step p)
 
 -- what an event on a state, or the making of the fresh state, is refused by; 0: accepted
 abbrev pub answers : Answer → ℕ → Bool
@@ -60,16 +54,16 @@ sameState s t =
 
 -- P10's state, and P12's on the way
 abbrev pub entered : LockState
-entered = run (begun guarded 2) (steps 4 0)
+entered = run (begun guarded 2) (steps 0 4)
 
 abbrev pub waiting : LockState
-waiting = run entered (steps 8 1)
+waiting = run entered (steps 1 8)
 
 abbrev pub interrupted : LockState
 interrupted = run waiting (raise 1 ∷ step 1 ∷ [])
 
 abbrev pub parked : LockState
-parked = run interrupted (steps 7 0)
+parked = run interrupted (steps 0 7)
 
 -- a case of document 01: its number, and its tests
 pub record Case : Type 0 where
@@ -106,11 +100,11 @@ cases =
     ∷ Bool·beq ((row (run (begun guarded 2) (raise 0 ∷ step 0 ∷ [])) 0) .flag) false
     ∷ [])
     -- "guarded, N 2: four steps of 0 bring it to 9, L is 0"
-    ∷ P 10 (sameNumbers (places (begun guarded 2) (steps 4 0)) (1 ∷ 2 ∷ 3 ∷ 9 ∷ []) ∷ eqb (entered .tail) 0 ∷ [])
+    ∷ P 10 (sameNumbers (places (begun guarded 2) (steps 0 4)) (1 ∷ 2 ∷ 3 ∷ 9 ∷ []) ∷ eqb (entered .tail) 0 ∷ [])
     -- "then three more: places 14, 15, 0, L none"
     ∷ P 11
-    (sameNumbers (places entered (steps 3 0)) (14 ∷ 15 ∷ 0 ∷ [])
-    ∷ eqb ((run entered (steps 3 0)) .tail) none
+    (sameNumbers (places entered (steps 0 3)) (14 ∷ 15 ∷ 0 ∷ [])
+    ∷ eqb ((run entered (steps 0 3)) .tail) none
     ∷ [])
     -- "after P10: eight steps of 1 (place 10), raise 1, step 1 (place 11, locked 2); seven steps of 0: 14, 17, 18, 19, 20, 22, 0,
     -- and 1's locked is 3. Four steps of 1: 12, 13, 7, 9"
@@ -118,9 +112,9 @@ cases =
     (eqb ((row waiting 1) .place) 10
     ∷ eqb ((row interrupted 1) .place) 11
     ∷ eqb ((row interrupted 1) .locked) Preempted
-    ∷ sameNumbers (places interrupted (steps 7 0)) (14 ∷ 17 ∷ 18 ∷ 19 ∷ 20 ∷ 22 ∷ 0 ∷ [])
+    ∷ sameNumbers (places interrupted (steps 0 7)) (14 ∷ 17 ∷ 18 ∷ 19 ∷ 20 ∷ 22 ∷ 0 ∷ [])
     ∷ eqb ((row parked 1) .locked) RP
-    ∷ sameNumbers (places parked (steps 4 1)) (12 ∷ 13 ∷ 7 ∷ 9 ∷ [])
+    ∷ sameNumbers (places parked (steps 1 4)) (12 ∷ 13 ∷ 7 ∷ 9 ∷ [])
     ∷ [])
     ∷ []
 

@@ -1,7 +1,7 @@
 -- Demand 3, clause by clause, as types; the proofs stand in proofs/. All of them speak of the step table's runs from
 -- the fresh state alone. A schedule is any list of calls, refused ones too, which change nothing; e is the edition, n
--- is N. In order: never two inside; the waiter; the demand's three claims on it; the same order with interrupts; what
--- a caller of the library holds is such a run. What is counted stands in Count, join, entry and interrupt in Run.
+-- is N. In order: never two inside; the waiter; the demand's three claims on it; the same order with interrupts; one is
+-- inside by its own entry only; a set guard has its releaser; what a caller of the library holds is such a run. What is counted stands in Count, join, entry and interrupt in Run.
 use Prim.Native.Nat.{ℕ, suc, _-_, _≤_, _<_}
 use mathlib.Core.Path.{_≡_}
 use mathlib.Core.Bool.{true, _||_}
@@ -10,7 +10,7 @@ use mathlib.Core.List.{List, [], _∷_, _++_}
 use lib.ListN.{length}
 use Rattle.lock.specs.declared.LockState.{LockState}
 use Rattle.lock.specs.declared.Answer.{Answer}
-use Rattle.lock.specs.State.{processors, isPlain, isDrawn, isGuarded, freshState}
+use Rattle.lock.specs.State.{processors, isPlain, isDrawn, isGuarded, freshState, row}
 use Rattle.lock.specs.Event.{fresh, happens}
 use Rattle.lock.specs.Run.{Call, run, joins, enters, isInside}
 use Rattle.lock.specs.Count.{joinsIn, entriesIn, interruptsIn, allEntriesIn, latestJoin, between}
@@ -106,6 +106,29 @@ NobodyOvertakes =
     → wait ≡ seen ++ other ∷ unseen
     → enters (reached e n (before ++ join ∷ seen)) other q ≡ true
     → latestJoin (freshState e n) (before ++ join ∷ seen ++ other ∷ []) q < suc (length before)
+
+-- "A processor is inside while its place is 9": it comes there only by its own entry, so counting entries counts all who go
+-- in. In any edition.
+abbrev pub InsideByEntry : Type 0
+InsideByEntry =
+    (e n : ℕ) (calls : List Call) (c : Call) (p : ℕ)
+    → isInside (reached e n (calls ++ c ∷ [])) p ≡ true
+    → (isInside (reached e n calls) p || enters (reached e n calls) c p) ≡ true
+
+-- who releases the guard of q: a processor at 19 to 22 whose succ is q
+pub record Releaser (s : LockState) (q : ℕ) : Type 0 where
+  pub who : ℕ
+  pub from : 19 ≤ (row s who) .place
+  pub until : (row s who) .place ≤ 22
+  pub succ : (row s who) .succ ≡ q
+
+-- A set guard has its releaser: nobody stays shut at the gate with nobody on the way to lift its guard.
+abbrev pub GuardHasItsReleaser : Type 0
+GuardHasItsReleaser =
+    (e n : ℕ) (calls : List Call) (q : ℕ)
+    → Ordered e n
+    → (row (reached e n calls) q) .guard ≡ true
+    → Releaser (reached e n calls) q
 
 -- What a caller of the library holds after some calls: `LockState::fresh` gave the first state and refused nothing;
 -- each further state is in what `event` answered on the one before. What the two answer is said by their contracts,

@@ -6,10 +6,10 @@ use mathlib.Core.Bool.{true}
 use mathlib.Core.Logic.{_≢_}
 use mathlib.Core.List.{List, [], _∷_, _++_}
 use lib.ListN.{length}
-use Rattle.lock.specs.State.{freshState}
+use Rattle.lock.specs.State.{plain, drawn, guarded, freshState, row}
 use Rattle.lock.specs.Run.{Call, joins, enters}
 use Rattle.lock.specs.Count.{entriesIn, interruptsIn, allEntriesIn, latestJoin}
-use Rattle.lock.specs.Claims.{reached, waited, Waits, LastJoin}
+use Rattle.lock.specs.Claims.{reached, waited, Ordered, Waits, LastJoin}
 
 -- A wait of p that meets the premises of demand 3 and is through exactly N - 1 entries, after which p enters.
 pub record BoundMet (e n : ℕ) : Type 0 where
@@ -33,6 +33,13 @@ pub record KeptItsPlace (e n : ℕ) : Type 0 where
   pub last-join : LastJoin e n before join wait entry p
   pub interrupt : interruptsIn (reached e n (before ++ join ∷ [])) wait p ≡ 1
   pub meanwhile : entriesIn (reached e n (before ++ join ∷ [])) wait q ≡ 1
+
+-- A guard that is set, and who releases it.
+pub record GuardSet (e n : ℕ) : Type 0 where
+  pub calls : List Call
+  pub q : ℕ
+  pub ordered : Ordered e n
+  pub set : (row (reached e n calls) q) .guard ≡ true
 
 -- The three claims with another premise on how many interrupts p takes. With noInterrupt they are what is claimed.
 abbrev pub Order : ℕ → ℕ → (ℕ → Type 0) → Type 0
@@ -70,13 +77,15 @@ oneAtMost k = k ≤ 1
 
 pub record ClaimsAreSharp : Type 0 where
   -- the premises can be met and the bound is met: guarded and plain, N 2
-  pub met-guarded : BoundMet 2 2
-  pub met-plain : BoundMet 0 2
+  pub met-guarded : BoundMet guarded 2
+  pub met-plain : BoundMet plain 2
   -- with one interrupt the order, "at most once" and the bound are false: guarded, N 3 and N 2
-  pub order-needs-calm : Order 2 3 oneAtMost → ⊥
-  pub once-needs-calm : Once 2 2 oneAtMost → ⊥
-  pub bound-needs-calm : Bound 2 2 oneAtMost → ⊥
+  pub order-needs-calm : Order guarded 3 oneAtMost → ⊥
+  pub once-needs-calm : Once guarded 2 oneAtMost → ⊥
+  pub bound-needs-calm : Bound guarded 2 oneAtMost → ⊥
   -- the drawn edition has no order, even without interrupts: N 3
-  pub drawn-has-none : Order 1 3 noInterrupt → ⊥
+  pub drawn-has-none : Order drawn 3 noInterrupt → ⊥
   -- the order with interrupts is not empty: guarded, N 3
-  pub kept : KeptItsPlace 2 3
+  pub kept : KeptItsPlace guarded 3
+  -- a guard is set in the guarded edition: N 2
+  pub guard-set : GuardSet guarded 2

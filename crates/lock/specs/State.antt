@@ -19,17 +19,26 @@ abbrev pub isNone : ℕ → Bool
 isNone q = eqb q none
 
 -- "Edition: 0 plain (figure 1), 1 drawn (figure 5), 2 guarded (figure 5 with the Boolean)"
+abbrev pub plain : ℕ
+plain = 0
+
+abbrev pub drawn : ℕ
+drawn = 1
+
+abbrev pub guarded : ℕ
+guarded = 2
+
 abbrev pub editions : ℕ
 editions = 3
 
 abbrev pub isPlain : ℕ → Bool
-isPlain e = eqb e 0
+isPlain e = eqb e plain
 
 abbrev pub isDrawn : ℕ → Bool
-isDrawn e = eqb e 1
+isDrawn e = eqb e drawn
 
 abbrev pub isGuarded : ℕ → Bool
-isGuarded e = eqb e 2
+isGuarded e = eqb e guarded
 
 -- "locked (0 Released, 1 Locked, 2 Preempted, 3 R_P, released while preempted)"
 abbrev pub Released : ℕ

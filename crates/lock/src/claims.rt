@@ -1,7 +1,7 @@
 // Demand 3, shown as proved under its clauses' names: each function here is empty, and its contract is the claim. What the claims
 // say stands in specs/Claims.
 ghost use Rattle.lock.specs.Sharp.{ClaimsAreSharp};
-ghost use Rattle.lock.specs.Claims.{NeverTwoInside, NeverTwoInsideAnyEdition, NobodyLaterEnters, OthersEnterOnce, WaitsAtMost, NobodyOvertakes, CallsAreARun};
+ghost use Rattle.lock.specs.Claims.{NeverTwoInside, NeverTwoInsideAnyEdition, NobodyLaterEnters, OthersEnterOnce, WaitsAtMost, NobodyOvertakes, InsideByEntry, GuardHasItsReleaser, CallsAreARun};
 
 // "two processors are never inside together"
 pub fn never_two_inside()
@@ -31,6 +31,16 @@ pub fn waits_at_most()
 // the order with any interrupts, from the last join before an entry
 pub fn nobody_overtakes()
     ensures { λ _. ⌜ NobodyOvertakes ⌝ }
+{}
+
+// "A processor is inside while its place is 9": it comes there by its own entry only
+pub fn inside_by_entry()
+    ensures { λ _. ⌜ InsideByEntry ⌝ }
+{}
+
+// a set guard has somebody on the way to lift it
+pub fn guard_has_its_releaser()
+    ensures { λ _. ⌜ GuardHasItsReleaser ⌝ }
 {}
 
 // any sequence of calls of `event` from `LockState::fresh` is a run

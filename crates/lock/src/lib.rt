@@ -12,6 +12,7 @@ pub mod kept;
 pub mod laws;
 mod sound;
 mod table;
+mod told;
 
 // The limit as an array's length.
 const ROWS: usize = LockState::PROCESSORS as usize;

@@ -5,6 +5,7 @@
 --     twice, past-the-bound          and so do at most once and the bound
 --     drawn                          what the guard buys: the drawn edition has no order, even without interrupts
 --     back                           the order with interrupts is not empty
+--     guard-is-set                   a guard is set in a run
 use Prim.Native.Nat.{ℕ, _-_, _≤_, _<_}
 use native.Mathlib.Omega.{arith}
 use mathlib.Core.Path.{_≡_, refl}
@@ -13,22 +14,14 @@ use mathlib.Core.List.{List, [], _∷_, _++_}
 use lib.ListN.{replicate}
 use lib.Dec.{lit≤}
 use borrow.Author.Tests.{eqb-false}
+use Rattle.lock.specs.State.{row}
 use Rattle.lock.specs.Run.{Call, enters}
+use Rattle.lock.specs.Cases.{step, steps, raise}
 use Rattle.lock.specs.Count.{entriesIn, interruptsIn, allEntriesIn}
 use Rattle.lock.specs.Claims.{reached, waited, Ordered, Waits, LastJoin}
 use Rattle.lock.specs.Sharp.{Order, Once, Bound, noInterrupt, oneAtMost, ClaimsAreSharp}
 use Rattle.lock.proofs.Roof.Opened.{computed}
 use Rattle.lock.proofs.Roof.Claimed.{nobody-later-enters, others-enter-once, waits-at-most}
-
-abbrev step : ℕ → Call
-step p = record { event = 1; processor = p }
-
--- k steps of p
-abbrev steps : ℕ → ℕ → List Call
-steps p k = replicate k (step p)
-
-abbrev raise : ℕ → List Call
-raise p = record { event = 2; processor = p } ∷ []
 
 -- ---- bound_met: "N 2, 0 hands to 1, 0 joins again, then 1 enters, hands to 0, and 0 enters: 0's second join waited through
 -- one entry", which is N - 1
@@ -97,8 +90,8 @@ unfolding computed
 passed order =
     let later : 18 < 8 =
     order (steps 0 4 ++ steps 1 3) (step 1)
-    (steps 1 4 ++ raise 1 ++ steps 1 1 ++ steps 2 7 ++ steps 0 9 ++ steps 2 1 ++ steps 1 9 ++ steps 2 3 ++ steps 1 4) 1 refl (lit≤ tt)
-    (steps 1 4 ++ raise 1 ++ steps 1 1 ++ steps 2 7 ++ steps 0 9) (step 2) (steps 1 9 ++ steps 2 3) 2 refl refl in
+    (steps 1 4 ++ raise 1 ∷ steps 1 1 ++ steps 2 7 ++ steps 0 9 ++ steps 2 1 ++ steps 1 9 ++ steps 2 3 ++ steps 1 4) 1 refl (lit≤ tt)
+    (steps 1 4 ++ raise 1 ∷ steps 1 1 ++ steps 2 7 ++ steps 0 9) (step 2) (steps 1 9 ++ steps 2 3) 2 refl refl in
     omega arith
 
 -- Guarded, N 2: 1 joins (call 8) and takes an interrupt. 0 parks the lock on it, joins again, claims the lock and enters,
@@ -108,7 +101,7 @@ abbrev twiceBefore : List Call
 twiceBefore = steps 0 4 ++ steps 1 3
 
 abbrev twiceLater : List Call
-twiceLater = steps 1 4 ++ raise 1 ++ steps 1 1 ++ steps 0 25 ++ steps 1 6
+twiceLater = steps 1 4 ++ raise 1 ∷ steps 1 1 ++ steps 0 25 ++ steps 1 6
 
 twice : Once 2 2 oneAtMost → ⊥
 unfolding computed
@@ -127,8 +120,8 @@ past-the-bound bound =
 
 abbrev drawnBefore : List Call
 drawnBefore =
-    steps 0 3 ++ steps 1 7 ++ raise 1 ++ steps 1 1 ++ steps 0 4 ++ steps 2 5 ++ steps 0 1 ++ steps 2 1 ++ steps 1 9 ++ raise 1
-    ++ steps 1 1 ++ steps 2 6 ++ steps 0 1 ++ steps 1 4 ++ steps 2 4 ++ steps 0 1 ++ steps 2 6 ++ steps 1 1 ++ steps 0 2
+    steps 0 3 ++ steps 1 7 ++ raise 1 ∷ steps 1 1 ++ steps 0 4 ++ steps 2 5 ++ steps 0 1 ++ steps 2 1 ++ steps 1 9 ++ raise 1
+    ∷ steps 1 1 ++ steps 2 6 ++ steps 0 1 ++ steps 1 4 ++ steps 2 4 ++ steps 0 1 ++ steps 2 6 ++ steps 1 1 ++ steps 0 2
 
 abbrev drawnSeen : List Call
 drawnSeen = steps 0 1 ++ steps 1 2 ++ steps 2 4 ++ steps 1 3 ++ steps 0 2 ++ steps 2 2
@@ -150,7 +143,7 @@ abbrev backBefore : List Call
 backBefore = steps 0 4 ++ steps 1 7 ++ steps 2 3
 
 abbrev backWait : List Call
-backWait = steps 2 4 ++ raise 2 ++ steps 2 3 ++ steps 0 3 ++ steps 1 4
+backWait = steps 2 4 ++ raise 2 ∷ steps 2 3 ++ steps 0 3 ++ steps 1 4
 
 back-last-join : LastJoin 2 3 backBefore (step 2) backWait (step 2) 2
 unfolding computed
@@ -164,6 +157,15 @@ back-interrupted = refl
 back-waits-through : entriesIn (reached 2 3 (backBefore ++ step 2 ∷ [])) backWait 1 ≡ 1
 unfolding computed
 back-waits-through = refl
+
+-- ---- guard-set: as in P12, 0 has fenced the interrupted 1 and is about to park the lock on it
+
+abbrev fencedCalls : List Call
+fencedCalls = steps 0 4 ++ steps 1 8 ++ raise 1 ∷ steps 1 1 ++ steps 0 4
+
+guard-is-set : (row (reached 2 2 fencedCalls) 1) .guard ≡ true
+unfolding computed
+guard-is-set = refl
 
 pub claims-are-sharp : ClaimsAreSharp
 claims-are-sharp =
@@ -205,5 +207,12 @@ claims-are-sharp =
             last-join = back-last-join;
             interrupt = back-interrupted;
             meanwhile = back-waits-through;
+          };
+      guard-set =
+          record {
+            calls = fencedCalls;
+            q = 1;
+            ordered = record { edition = refl; least = lit≤ tt; most = lit≤ tt };
+            set = guard-is-set;
           };
     }

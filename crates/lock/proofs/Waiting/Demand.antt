@@ -40,7 +40,7 @@ unfolding freshState
 fresh-size e n = refl
 
 -- one call at the end, and one in the middle
-run-last : (s : LockState) (cs : List Call) (c : Call) → run s (cs ++ c ∷ []) ≡ after (run s cs) c
+pub run-last : (s : LockState) (cs : List Call) (c : Call) → run s (cs ++ c ∷ []) ≡ after (run s cs) c
 unfolding run
 run-last s cs c = run-append s cs (c ∷ [])
 
@@ -81,7 +81,7 @@ ticketsBefore e n before = ticketsOf (freshState e n) noTickets before
 abbrev ticketsJoined : ℕ → ℕ → List Call → Call → Tickets
 ticketsJoined e n before join = ticketed (reached e n before) (ticketsBefore e n before) join
 
-rows-reached : (e n : ℕ) (before : List Call) → length ((reached e n before) .rows) ≡ processors
+pub rows-reached : (e n : ℕ) (before : List Call) → length ((reached e n before) .rows) ≡ processors
 rows-reached e n before = rows-run (freshState e n) before (fresh-rows e n)
 
 size-joined : (e n : ℕ) (before : List Call) (join : Call) → (joinedState e n before join) .n ≡ n
@@ -115,7 +115,7 @@ module _
     (inv-entry :
     (s : LockState) (g : Tickets) (c : Call) (e q : ℕ) → Inv s g → enters s c e ≡ true → isMember (after s c) q ≡ true
     → (q ≡ e → ⊥) → (ticketed s g c) .latest e < (ticketed s g c) .latest q) where
-  inv-run : (s : LockState) (g : Tickets) (cs : List Call) → Inv s g → Inv (run s cs) (ticketsOf s g cs)
+  pub inv-run : (s : LockState) (g : Tickets) (cs : List Call) → Inv s g → Inv (run s cs) (ticketsOf s g cs)
   unfolding run ticketsOf
   inv-run s g [] h = h
   inv-run s g (c ∷ cs) h = inv-run (after s c) (ticketed s g c) cs (inv-after s g c h)
