@@ -10,14 +10,13 @@ use borrow.Author.Tests.{eqb-true, not-true}
 use Rattle.lock.specs.declared.Row.{Row}
 use Rattle.lock.specs.declared.LockState.{LockState}
 use Rattle.choice.proofs.Tests.{clash, by-test, by-either}
-use Rattle.lock.specs.State.{processors, none, isNone, isPlain, isDrawn, Released, Locked, Preempted, RP, withLocked, withGuard, row, putRow, putLocked, putGuard, to, putNx}
+use Rattle.lock.specs.State.{processors, none, isNone, isPlain, isDrawn, Released, Locked, Preempted, RP, withLocked, row, putRow, putLocked, to, putNx}
 use Rattle.lock.specs.Table.{Place, placeAt, act, claim, hand, park, peek, take, lift}
 use Rattle.lock.specs.Sound.{places}
-use Rattle.lock.proofs.Ground.Rows.{rows-put}
 use Rattle.lock.proofs.Ground.Writes.{Own, own-start, own-all, put-all, row-there, own-locked, own-nx, own-succ, own-to}
 use Rattle.lock.proofs.Ground.Facts.{rel, lag, isBearer, facts, factsAt, bears}
-use Rattle.lock.proofs.Exclusion.Token.{Sole, SoleRow, bearsRow, Excl, parked-bears, parked-left, free-locks, parked-locks, quiet, blind}
-use Rattle.lock.proofs.Exclusion.Steps.{still, go, at, mine, settled, kept-place, rest-excl, gate-excl, clear-excl, swap-excl, arm-excl, link-excl, spin-excl, settle-excl, inside-excl, poll-excl, service-excl, back-excl, regain-excl, look-excl, close-excl, await-excl, fence-excl}
+use Rattle.lock.proofs.Exclusion.Token.{Sole, SoleRow, bearsRow, Excl, parked-bears, parked-left, free-locks, parked-locks, quiet}
+use Rattle.lock.proofs.Exclusion.Steps.{still, go, at, mine, settled, rest-excl, gate-excl, clear-excl, swap-excl, arm-excl, link-excl, spin-excl, settle-excl, inside-excl, poll-excl, service-excl, back-excl, regain-excl, look-excl, close-excl, await-excl, fence-excl, guard-aside}
 use Rattle.lock.proofs.Ground.Places.{Each, begin, _▹_}
 use Rattle.lock.specs.Acts as Acts
 
@@ -216,21 +215,24 @@ module _ (s : LockState) (p : ℕ) (x : Excl s) (room : p < length (s .rows)) wh
       }))
       (λ g. lift-to-excl (putNx s p none) p (x .bearer) (nx-poised none e (fits e) (λ u. clash refl u)))
 
-  pub lift-excl : placeAt ((row s p) .place) ≡ lift → Excl (Acts.lift s p)
-  unfolding Acts.lift putGuard
-  lift-excl e =
-      let y = (row s p) .succ in
-      let r = withGuard (row s y) false in
-      let z : Excl (putRow s y r) = blind y r (λ h t q f. f) x in
-      let f = mine (putRow s y r) p z (rw rows-put room) (ap placeAt (kept-place s y r refl p) ∙ e) in
-      onward-excl (putRow s y r) p (z .bearer)
-      (record {
-        room = rw rows-put room;
-        rooms = z .rooms;
-        others = λ q d. z .rows q;
-        free = f .settled;
-        right = λ g. f .one (rw g refl);
-      })
+-- on from the lift, from a state in which p still stands there
+lift-on : (t : LockState) (p : ℕ) → Excl t → p < length (t .rows) → placeAt ((row t p) .place) ≡ lift → Excl (Acts.onward t p)
+lift-on t p z room e =
+    let f = mine t p z room e in
+    onward-excl t p (z .bearer)
+    (record {
+      room = room;
+      rooms = z .rooms;
+      others = λ q d. z .rows q;
+      free = f .settled;
+      right = λ g. f .one (rw g refl);
+    })
+
+lift-excl : (s : LockState) (p : ℕ) → Excl s → p < length (s .rows) → placeAt ((row s p) .place) ≡ lift → Excl (Acts.lift s p)
+unfolding Acts.lift
+lift-excl s p x room e =
+    let w = guard-aside s p _ _ in
+    lift-on _ p (w .excl x) (w .room room) (ap placeAt (w .place) ∙ e)
 
 -- the act of each place
 pub acts :

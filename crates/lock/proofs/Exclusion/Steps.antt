@@ -171,11 +171,11 @@ module _ (s : LockState) (p : ℕ) (x : Excl s) (room : p < length (s .rows)) wh
   swap-excl e =
       by-test (λ k. Excl (to (putTail (putPred s p (s .tail)) p) p k)) (isNone (s .tail))
       (λ g.
-      retail p (own-to (own-tail (own-pred (own-start s p room) _) p) _)
+      retail p (own-to (own-tail (own-pred (own-start s p room) _) _) _)
       (record { settled = settled e; one = λ u. (refl, there) })
       (λ q d. λ u. absurd ((x .rows q) .one u .1 (eqb-true (s .tail) none g))))
       (λ g.
-      retail (x .bearer) (own-to (own-tail (own-pred (own-start s p room) _) p) _)
+      retail (x .bearer) (own-to (own-tail (own-pred (own-start s p room) _) _) _)
       (record { settled = settled e; one = λ u. clash u refl }) (λ q d. λ u. ((x .rows q) .one u .0, there)))
 
   -- the token goes together with the tail
@@ -184,34 +184,49 @@ module _ (s : LockState) (p : ℕ) (x : Excl s) (room : p < length (s .rows)) wh
   close-excl e =
       by-test Excl (eqb (s .tail) p)
       (λ g.
-      retail p (own-to (own-tail (own-start s p room) none) _)
+      retail p (own-to (own-tail (own-start s p room) _) _)
       (record { settled = settled e; one = λ u. clash u refl })
       (λ q d. λ u. absurd (d ((x .rows q) .one u .0 ∙ sym ((mine e) .one refl .0)))))
       (λ g. go _ e (λ h t f. f))
 
--- the own row's cells after a put that leaves them
-pub kept-place :
-    (s : LockState) (y : ℕ) (r : Row) → r .place ≡ (row s y) .place → (q : ℕ)
-    → (row (putRow s y r) q) .place ≡ (row s q) .place
-kept-place s y r e = put-all (λ q z. z .place ≡ (row s q) .place) s y r (λ q. refl) e
+-- a write of a next or of a guard, anybody's, is nothing to the token; it leaves p's place, and p its room
+pub record Aside (s t : LockState) (p : ℕ) : Type 0 where
+  pub excl : Excl s → Excl t
+  pub place : (row t p) .place ≡ (row s p) .place
+  pub room : p < length (s .rows) → p < length (t .rows)
+
+aside :
+    {s : LockState} {p : ℕ} (y : ℕ) (r : Row) → ((h tail q : ℕ) → SoleRow h tail q (row s y) → SoleRow h tail q r)
+    → r .place ≡ (row s y) .place
+    → Aside s (putRow s y r) p
+aside {s} {p} y r same place =
+    record {
+      excl = blind y r same;
+      place = put-all (λ q z. z .place ≡ (row s q) .place) s y r (λ q. refl) place p;
+      room = λ h. rw rows-put h;
+    }
+
+pub next-aside : (s : LockState) (p y v : ℕ) → Aside s (putNext s y v) p
+unfolding putNext
+next-aside s p y v = aside y (withNext (row s y) v) (λ h t q f. f) refl
+
+pub guard-aside : (s : LockState) (p y : ℕ) (v : Bool) → Aside s (putGuard s y v) p
+unfolding putGuard
+guard-aside s p y v = aside y (withGuard (row s y) v) (λ h t q f. f) refl
 
 module _ (s : LockState) (p : ℕ) (x : Excl s) (room : p < length (s .rows)) where
   pub link-excl : placeAt ((row s p) .place) ≡ link → Excl (Acts.link s p)
-  unfolding Acts.link putNext
+  unfolding Acts.link
   link-excl e =
-      let y = (row s p) .pred in
-      let r = withNext (row s y) p in
-      let t = putRow s y r in
-      let z : Excl t = blind y r (λ h t q f. f) x in
-      let here = ap placeAt (kept-place s y r refl p) ∙ e in
+      let t = putNext s ((row s p) .pred) p in
+      let w = next-aside s p ((row s p) .pred) p in
+      let bears = linked-bears (eqb ((row t p) .locked) Released) in
       by-either (λ k. Excl (to t p k)) (isPlain (s .edition))
-      (go t p z (rw rows-put room) _ here (λ h l f. still f (f .settled) (linked-bears (eqb ((row t p) .locked) Released))))
-      (go t p z (rw rows-put room) _ here (λ h l f. still f (f .settled) (linked-bears (eqb ((row t p) .locked) Released))))
+      (go t p (w .excl x) (w .room room) _ (ap placeAt (w .place) ∙ e) (λ h l f. still f (f .settled) bears))
+      (go t p (w .excl x) (w .room room) _ (ap placeAt (w .place) ∙ e) (λ h l f. still f (f .settled) bears))
 
   pub fence-excl : placeAt ((row s p) .place) ≡ fence → Excl (Acts.fence s p)
-  unfolding Acts.fence putGuard
+  unfolding Acts.fence
   fence-excl e =
-      let y = (row s p) .succ in
-      let r = withGuard (row s y) true in
-      go (putRow s y r) p (blind y r (λ h t q f. f) x) (rw rows-put room) _ (ap placeAt (kept-place s y r refl p) ∙ e)
-      (λ h t f. still f (f .settled) (λ u. u))
+      let w = guard-aside s p _ _ in
+      go _ p (w .excl x) (w .room room) _ (ap placeAt (w .place) ∙ e) (λ h l f. still f (f .settled) (λ u. u))

@@ -11,7 +11,7 @@ use borrow.Author.Tests.{lt-ltb}
 use Rattle.lock.specs.declared.LockState.{LockState}
 use Rattle.choice.specs.Every.{every}
 use Rattle.choice.proofs.Tests.{by-test}
-use Rattle.lock.specs.State.{none, isNone, isPlain, isDrawn, isGuarded, Released, Locked, Preempted, RP, row, putRow, putTail, putNext, putLocked, to, putPred, putSucc}
+use Rattle.lock.specs.State.{isNone, isPlain, isDrawn, isGuarded, Released, Locked, Preempted, RP, row, putRow, putTail, putNext, putLocked, to, putPred, putSucc}
 use Rattle.lock.specs.Sound.{noneOrBelow, hasPlace, places}
 use Rattle.lock.specs.Kept.{Whole}
 use Rattle.lock.specs.Table.{Place, placeAt, act, rest, gate, clear, swap, arm, link, claim, spin, settle, inside, poll, service, back, regain, look, close, await, hand, fence, park, peek, take, lift}
@@ -65,7 +65,7 @@ module _ {s : LockState} {p : ℕ} (w : Whole s) where
 
   clear-kept : Stands s p clear → Whole (Acts.clear s p)
   unfolding Acts.clear suits every hasPlace
-  clear-kept x = lands _ (put-next x p none (x .base .below) refl) refl
+  clear-kept x = lands _ (put-next x _ _ (x .base .below) refl) refl
 
   swap-kept : Stands s p swap → Whole (Acts.swap s p)
   unfolding Acts.swap putPred putRow suits every hasPlace
@@ -76,12 +76,12 @@ module _ {s : LockState} {p : ℕ} (w : Whole s) where
 
   arm-kept : Stands s p arm → Whole (Acts.arm s p)
   unfolding Acts.arm suits every hasPlace
-  arm-kept x = lands _ (put-locked x p Locked (x .base .below) refl) refl
+  arm-kept x = lands _ (put-locked x _ _ (x .base .below) refl) refl
 
   link-kept : Stands s p link → Whole (Acts.link s p)
   unfolding Acts.link putNext putRow suits every hasPlace
   link-kept x =
-      let linked = put-next x ((row s p) .pred) p (pred-below x refl) (self-fits x) in
+      let linked = put-next x _ _ (pred-below x refl) (self-fits x) in
       by-test (λ v. Whole (to (putNext s ((row s p) .pred) p) p v)) (isPlain (s .edition)) (λ h. lands _ linked refl)
       (λ h. lands _ (knowing linked (λ e. not (isPlain e)) (ap not h)) refl)
 
@@ -89,7 +89,7 @@ module _ {s : LockState} {p : ℕ} (w : Whole s) where
   unfolding Acts.claim suits every hasPlace
   claim-kept x =
       by-test Whole (eqb ((row s ((row s p) .pred)) .locked) RP)
-      (λ h. lands _ (put-locked x ((row s p) .pred) Released (pred-below x refl) refl) refl)
+      (λ h. lands _ (put-locked x _ _ (pred-below x refl) refl) refl)
       (λ h. lands _ x refl)
 
   spin-kept : Stands s p spin → Whole (Acts.spin s p)
@@ -101,7 +101,7 @@ module _ {s : LockState} {p : ℕ} (w : Whole s) where
 
   settle-kept : Stands s p settle → Whole (Acts.settle s p)
   unfolding Acts.settle suits every hasPlace
-  settle-kept x = lands _ (put-locked x p Released (x .base .below) refl) refl
+  settle-kept x = lands _ (put-locked x _ _ (x .base .below) refl) refl
 
   inside-kept : Stands s p inside → Whole (Acts.inside s p)
   unfolding Acts.inside suits every hasPlace
@@ -111,7 +111,7 @@ module _ {s : LockState} {p : ℕ} (w : Whole s) where
   unfolding Acts.poll putLocked putRow suits every hasPlace
   poll-kept x =
       by-test Whole ((row s p) .flag && eqb ((row s p) .locked) Locked)
-      (λ h. lands _ (put-flag (put-locked x p Preempted (x .base .below) refl) p false (x .base .below)) refl)
+      (λ h. lands _ (put-flag (put-locked x _ _ (x .base .below) refl) _ _ (x .base .below)) refl)
       (λ h. lands _ x refl)
 
   service-kept : Stands s p service → Whole (Acts.service s p)
@@ -122,13 +122,13 @@ module _ {s : LockState} {p : ℕ} (w : Whole s) where
   unfolding Acts.back suits every hasPlace
   back-kept x =
       by-test Whole (eqb ((row s p) .locked) Preempted)
-      (λ h. lands _ (put-locked x p Locked (x .base .below) refl) refl) (λ h. lands _ x refl)
+      (λ h. lands _ (put-locked x _ _ (x .base .below) refl) refl) (λ h. lands _ x refl)
 
   regain-kept : Stands s p regain → Whole (Acts.regain s p)
   unfolding Acts.regain suits every hasPlace
   regain-kept x =
       by-test Whole (eqb ((row s p) .locked) RP)
-      (λ h. lands _ (put-locked x p Released (x .base .below) refl) refl) (λ h. queue-kept x)
+      (λ h. lands _ (put-locked x _ _ (x .base .below) refl) refl) (λ h. queue-kept x)
 
   look-kept : Stands s p look → Whole (Acts.look s p)
   unfolding Acts.look suits every hasPlace
@@ -137,7 +137,7 @@ module _ {s : LockState} {p : ℕ} (w : Whole s) where
   close-kept : Stands s p close → Whole (Acts.close s p)
   unfolding Acts.close suits every hasPlace
   close-kept x =
-      by-test Whole (eqb (s .tail) p) (λ h. lands _ (put-tail x none refl) refl) (λ h. lands _ x refl)
+      by-test Whole (eqb (s .tail) p) (λ h. lands _ (put-tail x _ refl) refl) (λ h. lands _ x refl)
 
   await-kept : Stands s p await → Whole (Acts.await s p)
   unfolding Acts.await
@@ -147,7 +147,7 @@ module _ {s : LockState} {p : ℕ} (w : Whole s) where
   unfolding Acts.hand suits every hasPlace
   hand-kept x =
       let handed : Whole (to (putLocked s ((row s p) .succ) Released) p 0) =
-      lands _ (put-locked x ((row s p) .succ) Released (succ-below x refl) refl) refl in
+      lands _ (put-locked x _ _ (succ-below x refl) refl) refl in
       by-test Whole (isPlain (s .edition)) (λ a. handed)
       (λ a.
       by-test Whole (eqb ((row s ((row s p) .succ)) .locked) Locked) (λ h. handed)
@@ -158,13 +158,13 @@ module _ {s : LockState} {p : ℕ} (w : Whole s) where
 
   fence-kept : Stands s p fence → Whole (Acts.fence s p)
   unfolding Acts.fence suits every hasPlace
-  fence-kept x = lands _ (put-guard x ((row s p) .succ) true (succ-below x refl)) refl
+  fence-kept x = lands _ (put-guard x _ _ (succ-below x refl)) refl
 
   park-kept : Stands s p park → Whole (Acts.park s p)
   unfolding Acts.park suits every hasPlace
   park-kept x =
       by-test Whole (eqb ((row s ((row s p) .succ)) .locked) Preempted)
-      (λ h. lands _ (put-locked x ((row s p) .succ) RP (succ-below x refl) refl) refl)
+      (λ h. lands _ (put-locked x _ _ (succ-below x refl) refl) refl)
       (λ h. lift-next-kept (put-nx x ((row s p) .succ) false (own-cells x .succ) refl) refl)
 
   peek-kept : Stands s p peek → Whole (Acts.peek s p)
@@ -179,12 +179,12 @@ module _ {s : LockState} {p : ℕ} (w : Whole s) where
   unfolding Acts.take suits every hasPlace
   take-kept x =
       by-test Whole (eqb ((row s ((row s p) .succ)) .locked) RP)
-      (λ h. lift-next-kept (put-locked x ((row s p) .succ) Released (succ-below x refl) refl) refl)
-      (λ h. lift-next-kept (put-nx x none false refl refl) refl)
+      (λ h. lift-next-kept (put-locked x _ _ (succ-below x refl) refl) refl)
+      (λ h. lift-next-kept (put-nx x _ false refl refl) refl)
 
   lift-kept : Stands s p lift → Whole (Acts.lift s p)
   unfolding Acts.lift
-  lift-kept x = onward-kept (put-guard x ((row s p) .succ) false (succ-below x refl))
+  lift-kept x = onward-kept (put-guard x _ _ (succ-below x refl))
 
 -- the act of each place
 pub acts : {s : LockState} {p : ℕ} → Whole s → Each (λ m. Ready s p (standing m) → Whole (act (placeAt m) s p)) places
