@@ -2,17 +2,18 @@
 --     row-put-same     the replaced row is the one put there, where there is such a row
 --     row-put-other    every other row is as it was
 --     rows-put         there are as many rows as before
+--     put-far          a row that is not there is not replaced
 --     getD-any         an index within a list needs no default
 --     length-mapped    a list is as long as what a function makes of it
 --     row-within       so a row that is there is what stands at its number
-use Prim.Native.Nat.{ℕ, zero, suc, _<_}
+use Prim.Native.Nat.{ℕ, zero, suc, _<_, _≤_}
 use native.Mathlib.Nat.{not-suc-le-zero, le-of-suc-le-suc}
 use mathlib.Core.List.{List, [], _∷_, map}
-use mathlib.Core.Path.{_≡_, refl, sym, _∙_}
+use mathlib.Core.Path.{_≡_, refl, sym, ap, _∙_}
 use mathlib.Core.Bool.{false}
 use mathlib.Core.Logic.{_≢_}
 use lib.ListN.{length, getD, length-set, length-map}
-use lib.Seq.{getD-set-same, getD-set-other}
+use lib.Seq.{getD-set-same, getD-set-other, set-out}
 use Rattle.lock.specs.declared.Row.{Row}
 use Rattle.lock.specs.declared.LockState.{LockState}
 use Rattle.lock.specs.State.{freshRow, row, putRow}
@@ -28,6 +29,11 @@ row-put-same s p r h = getD-set-same (s .rows) p r freshRow h
 pub row-put-other : (s : LockState) (p : ℕ) (r : Row) (q : ℕ) → q ≢ p → row (putRow s p r) q ≡ row s q
 unfolding row putRow
 row-put-other s p r q h = getD-set-other (s .rows) p q r freshRow h
+
+pub put-far : (s : LockState) (p : ℕ) (r : Row) → length (s .rows) ≤ p → putRow s p r ≡ s
+unfolding putRow
+put-far s p r far =
+    ap (λ rows. record { edition = s .edition; n = s .n; tail = s .tail; rows = rows }) (set-out (s .rows) p r far)
 
 -- what stands at an index within a list does not depend on the default
 pub getD-any : {A : Type 0} (l : List A) (i : ℕ) (d e : A) → i < length l → getD l i d ≡ getD l i e

@@ -11,7 +11,7 @@ use borrow.Author.Tests.{lt-ltb}
 use Rattle.lock.specs.declared.LockState.{LockState}
 use Rattle.choice.specs.Every.{every}
 use Rattle.choice.proofs.Tests.{by-test}
-use Rattle.lock.specs.State.{isNone, isPlain, isDrawn, isGuarded, Released, Locked, Preempted, RP, row, putRow, putTail, putNext, putLocked, to, putPred, putSucc}
+use Rattle.lock.specs.State.{isNone, isPlain, isDrawn, isGuarded, Released, Locked, Preempted, RP, row, putRow, putTail, putNext, putLocked, putGuard, to, putPred, putSucc}
 use Rattle.lock.specs.Sound.{noneOrBelow, hasPlace, places}
 use Rattle.lock.specs.Kept.{Whole}
 use Rattle.lock.specs.Table.{Place, placeAt, act, rest, gate, clear, swap, arm, link, claim, spin, settle, inside, poll, service, back, regain, look, close, await, hand, fence, park, peek, take, lift}
@@ -158,7 +158,7 @@ module _ {s : LockState} {p : ℕ} (w : Whole s) where
 
   fence-kept : Stands s p fence → Whole (Acts.fence s p)
   unfolding Acts.fence suits every hasPlace
-  fence-kept x = lands _ (put-guard x _ _ (succ-below x refl)) refl
+  fence-kept x = let c = own-cells x in lands _ (put-guard x _ _ (search c)) refl
 
   park-kept : Stands s p park → Whole (Acts.park s p)
   unfolding Acts.park suits every hasPlace
@@ -184,7 +184,9 @@ module _ {s : LockState} {p : ℕ} (w : Whole s) where
 
   lift-kept : Stands s p lift → Whole (Acts.lift s p)
   unfolding Acts.lift
-  lift-kept x = onward-kept (put-guard x _ _ (succ-below x refl))
+  lift-kept x =
+      let c = own-cells x in
+      onward-kept {s = putGuard s _ _} (put-guard x _ _ (search c))
 
 -- the act of each place
 pub acts : {s : LockState} {p : ℕ} → Whole s → Each (λ m. Ready s p (standing m) → Whole (act (placeAt m) s p)) places

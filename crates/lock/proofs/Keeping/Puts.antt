@@ -8,22 +8,22 @@
 --     lands                    p goes to a place that suits what is known, and the state is whole
 --     flag-kept                a put to p's flag keeps a whole state whole, wherever p stands
 use Prim.Native.Nat.{ℕ, _<_, _≤_}
-use mathlib.Core.Path.{_≡_, refl, _∙_}
+use mathlib.Core.Path.{_≡_, refl, _∙_, sym, subst}
 use mathlib.Core.Bool.{Bool, true, false, not, _&&_, _||_, false≢true}
 use mathlib.Core.Logic.{_≢_}
 use native.Mathlib.Omega.{arith}
 use lib.ListN.{length}
 use lib.Dec.{leb, ltb}
-use borrow.Author.Tests.{ltb-true, leb-true, not-true}
+use borrow.Author.Tests.{ltb-true, leb-true, not-true, eqb-true}
 use Rattle.lock.specs.declared.Row.{Row}
 use Rattle.lock.specs.declared.LockState.{LockState}
 use Rattle.choice.specs.Every.{every}
-use Rattle.choice.proofs.Tests.{and-both}
+use Rattle.choice.proofs.Tests.{and-both, left-of}
 use Rattle.choice.proofs.Numbers.{by-same, every-at}
-use Rattle.lock.specs.State.{processors, editions, isNone, RP, row, putRow, withNext, withLocked, withGuard, withFlag, withPlace, withPred, withSucc, withNx, putTail, putNext, putLocked, putGuard, putFlag, to, putPred, putSucc, putNx}
+use Rattle.lock.specs.State.{processors, editions, none, isNone, RP, row, putRow, withNext, withLocked, withGuard, withFlag, withPlace, withPred, withSucc, withNx, putTail, putNext, putLocked, putGuard, putFlag, to, putPred, putSucc, putNx}
 use Rattle.lock.specs.Sound.{noneOrBelow, isThere, placeSound}
 use Rattle.lock.specs.Kept.{Whole}
-use Rattle.lock.proofs.Ground.Rows.{rows-put, row-put-same, row-put-other}
+use Rattle.lock.proofs.Ground.Rows.{rows-put, row-put-same, row-put-other, put-far}
 use Rattle.lock.proofs.Keeping.Parts.{Known, HasIn, CellsIn, Fits, ButPlace, Ready, standing, parts, joint, row-place, ready, whole}
 
 -- what holds of the row put and of the rows that were holds of every row
@@ -118,9 +118,19 @@ module _ {s : LockState} {p : ℕ} {k : Known} (x : Ready s p k) where
       near-put q (withLocked (row s q) v) below
       (record { next = c .next; pred = c .pred; succ = c .succ; nx = c .nx; locked = h }) (λ f. f) (λ f. f)
 
-  pub put-guard : (q : ℕ) (v : Bool) → q < s .n → Ready (putGuard s q v) p k
+  -- nobody's guard is put where q is none
+  pub put-guard : (q : ℕ) (v : Bool) → noneOrBelow (s .n) q ≡ true → Ready (putGuard s q v) p k
   unfolding putGuard placeSound
-  put-guard q v below = near-put q (withGuard (row s q) v) below (x .base .rows q .cells below) (λ f. f) (λ f. f)
+  put-guard q v h = by (ltb q (s .n)) refl
+    where
+      by : (b : Bool) → ltb q (s .n) ≡ b → Ready (putRow s q (withGuard (row s q) v)) p k
+      by true e =
+          let below = ltb-true q (s .n) e in
+          near-put q (withGuard (row s q) v) below (x .base .rows q .cells below) (λ f. f) (λ f. f)
+      by false e =
+          let same : q ≡ none = eqb-true q none (left-of (isNone q) (ltb q (s .n)) h e) in
+          let rooms = x .base .rooms in
+          subst (λ (t : LockState). Ready t p k) (sym (put-far s q (withGuard (row s q) v) (omega arith))) x
 
   pub put-flag : (q : ℕ) (v : Bool) → q < s .n → Ready (putFlag s q v) p k
   unfolding putFlag placeSound

@@ -12,7 +12,7 @@ use Rattle.lock.specs.declared.Row.{Row}
 use Rattle.lock.specs.declared.LockState.{LockState}
 use Rattle.choice.proofs.Tests.{clash, by-test}
 use Rattle.choice.proofs.Numbers.{by-same}
-use Rattle.lock.specs.State.{none, isNone, Released, RP, withGuard, row, putLocked, putGuard, to, putSucc}
+use Rattle.lock.specs.State.{none, isNone, Released, RP, withGuard, row, putLocked, to, putSucc}
 use Rattle.lock.specs.Table.{placeAt, peek, take, lift}
 use Rattle.lock.proofs.Ground.Facts.{lag, facts, factsAt}
 use Rattle.lock.proofs.Order.Tickets.{Tickets}
@@ -204,9 +204,10 @@ module _ (s : LockState) (g : Tickets) (p : ℕ) (v : Holds s g) (room : p < len
           (λ x k. upd-back (G .fencer) y 0 (suc q) x (λ z. omega arith) k))
           (λ k w. w) sh fd mn (v .fits q)
 
-  pub lift-holds : placeAt (R .place) ≡ lift → Holds (Acts.lift s p) g
-  unfolding Acts.lift Acts.onward
-  lift-holds e =
+  -- on from the lift, once the guard of the row that p fences is clear
+  lift-on : placeAt (R .place) ≡ lift → (t : LockState) → Both s t p y R (withGuard Y false) → Holds (Acts.onward t p) g
+  unfolding Acts.onward
+  lift-on e t base =
       subst (λ (r : Row). Holds (cond (isNone (r .nx)) (to t p 0) (to (putSucc t p (r .nx)) p 17)) g)
       (sym (base .own))
       (by-test (λ t. Holds t g) (isNone (R .nx))
@@ -235,19 +236,6 @@ module _ (s : LockState) (g : Tickets) (p : ℕ) (v : Holds s g) (room : p < len
       apart : p ≢ y
       apart k = on .1 (sym k)
 
-      t : LockState
-      t = putGuard s y false
-
-      near : y < length (s .rows)
-      near =
-          row-there s y
-          (λ k.
-          clash (sym (ap (λ (r : Row). r .guard) k) ∙
-          ((v .fits y) .fenced (λ n. let z : suc p ≡ 0 = sym (on .0) ∙ n in omega arith)) .set) refl)
-
-      base : Both s t p y R (withGuard Y false)
-      base = near-guard (both-start s p y apart room near) _
-
       own-fenced :
           upd (G .fencer) y 0 p ≢ 0 → Fenced (G .lagged p) (G .peeked p) (R .locked) (R .next) (R .guard)
       own-fenced =
@@ -263,3 +251,17 @@ module _ (s : LockState) (g : Tickets) (p : ℕ) (v : Holds s g) (room : p < len
           by-same (λ x. upd (G .fencer) y 0 x ≢ suc p) y
           (λ k. let z : 0 ≡ suc p = sym (upd-same (G .fencer) y 0) ∙ k in omega arith)
           (λ x d k. d (on .2 x (sym (upd-other (G .fencer) y 0 x d) ∙ k)))
+
+  pub lift-holds : placeAt (R .place) ≡ lift → Holds (Acts.lift s p) g
+  unfolding Acts.lift
+  lift-holds e =
+      let on = (mine s g p v room e) .fencing in
+      lift-on e _ (near-guard (both-start s p _ (λ k. on .1 (sym k)) room (near on)) _)
+    where
+      -- a fenced row has its guard set, so it is there
+      near : Fencing true (G .fencer) p y → y < length (s .rows)
+      near on =
+          row-there s y
+          (λ k.
+          clash (sym (ap (λ (r : Row). r .guard) k) ∙
+          ((v .fits y) .fenced (λ n. let z : suc p ≡ 0 = sym (on .0) ∙ n in omega arith)) .set) refl)
