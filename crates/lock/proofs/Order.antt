@@ -1,14 +1,13 @@
 -- Demand 3: why nobody is overtaken. Joins are numbered, and whoever enters has the smallest number of all in the queue. In the
 -- order to read:
 --     Tickets                        the numbers given out, and who stands in the queue
---     Choices, Calls, Writes         laws of tests; what becomes of a call; what an act leaves of the rows
---     Stages, Roles                  places grouped, and what a row does in the queue
+--     Roles                          what the table of places says of a row in the queue
 --     Statement                      the invariant: a record of clauses
 --     Carry, Near, Build             rows that a step does not write, neighbours, and putting the invariant together
 --     Quiet                          the steps that move no ghost
 --     Join, Link, Leave              places 3; 5 and 6; 14 to 16
 --     Hand, Fence, Take              places 17 and 19; 18; 20 to 22
---     Invariant                      fresh, after every call, and who enters first
+--     Invariant                      fresh, after every call; who enters first, and who releases a guard
 pub mod Tickets
 pub mod Roles
 pub mod Statement

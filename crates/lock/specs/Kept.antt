@@ -1,5 +1,9 @@
 -- Soundness is kept, as types; the proofs stand in proofs/Keeping. So refusal 11 is for a state that somebody makes by
 -- hand: no schedule leads to it from the fresh state.
+--     Whole            a sound state with its sixteen rows
+--     FreshIsSound     the fresh state is sound, and so is the filler
+--     SoundIsKept      an accepted event gives a sound state
+--     NeverUnsound     no schedule leads from the fresh state to one that is not sound
 use Prim.Native.Nat.{ℕ}
 use mathlib.Core.Path.{_≡_}
 use mathlib.Core.Bool.{true}

@@ -2,9 +2,13 @@
 -- run of numbers, from gone up to count, and only the one at the front is served. Every clause speaks of one row,
 -- through ghosts that name who made a join and who fences a row.
 --     Ghost            what the proof remembers beside the tickets
+--     upd, upd-same, upd-other, upd-back       a function changed at one number
 --     Books            what holds of tickets, ghost and tail alone
+--     Linked           x made join i, which is linked and still in the queue
 --     Queued, Away     to be in the queue, and not to be in it
---     Duty             what is said of a row by its role
+--     Raw, Wait, Tok, Rel, Lag, Duty           what is said of a row by its role
+--     given, given-map                         what is said only where a test holds
+--     Fencing, Fenced  who fences, and what a fence on a row keeps
 --     Fit, FitRow      all that is said of a row
 --     Holds            the invariant of a state
 use Prim.Native.Nat.{ℕ, suc, _<_, _≤_}

@@ -1,5 +1,6 @@
 -- Laws of what Count counts, over any run; nothing here knows what a call does.
---     run-append, tickets-append      a run goes on where the first part ended
+--     run-append                      a run goes on where the first part ended
+--     ticketsOf                       the tickets after a run
 --     count-yes, count-no             one more call
 --     count-none                      where nothing is counted, not in the first call and not in the rest
 --     count-there                     what passes the test within the calls is counted

@@ -1,6 +1,10 @@
 -- What writes leave. An act of processor p is a chain of writes, and at most one of them, the last, is of p's place.
--- Kept says what any chain of other writes leaves: every place, and that a row which is not p's and is Released stays
--- so. Goes adds the last write: where p then is. In order: Kept and the writes that keep; Goes and its two ends.
+--     Kept                         what any chain of other writes leaves: every place, and that a row which is not p's and is
+--                                  Released stays so
+--     kept-self, kept-tail, kept-next, kept-guard, kept-flag, kept-pred, kept-succ, kept-nx        writes that keep
+--     kept-release, kept-own, kept-locked      a locked is made Released, is p's own, or was not Released before
+--     Goes                         with the last write: where p then is
+--     goes-to, stays               its two ends: a write of p's place, or none
 use Prim.Native.Nat.{ℕ, _<_}
 use mathlib.Core.Path.{_≡_, refl, sym, ap, _∙_, subst}
 use mathlib.Core.Bool.{Bool, true}
