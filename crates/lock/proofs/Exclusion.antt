@@ -6,19 +6,18 @@
 pub mod Token
 pub mod Steps
 pub mod Passing
-use Prim.Native.Nat.{ℕ, _<_, _≤_}
-use mathlib.Core.Path.{_≡_, refl, sym, ap, subst, _∙_}
+use Prim.Native.Nat.{ℕ, _≤_}
+use mathlib.Core.Path.{_≡_, refl, sym, subst, _∙_}
 use mathlib.Core.Bool.{true}
 use native.Mathlib.Omega.{arith}
-use lib.Dec.{eqb, ltb}
-use lib.ListN.{length}
+use lib.Dec.{ltb}
 use borrow.Author.Tests.{eqb-true}
 use Rattle.lock.specs.declared.LockState.{LockState}
 use Rattle.lock.specs.State.{processors, editions, isNone, freshState, row, putFlag}
 use Rattle.lock.specs.Table.{placeAt, act, stepped, inside}
 use Rattle.lock.specs.Event.{raised}
 use Rattle.lock.specs.Run.{Call, after, isInside}
-use Rattle.lock.proofs.Ground.Places.{_▹_, at-number}
+use Rattle.lock.proofs.Ground.Places.{at-number}
 use Rattle.lock.proofs.Ground.Calls.{Kind, idle, raise, step, kind}
 use Rattle.lock.proofs.Ground.Facts.{facts, factsAt}
 use Rattle.lock.proofs.Keeping.Parts.{row-room}

@@ -8,9 +8,8 @@
 --     parked-bears, parked-left, free-locks, parked-locks      what the table of places says of 0, 2 and 3
 use Prim.Native.Nat.{ℕ}
 use mathlib.Core.Path.{_≡_, refl, sym, subst, _∙_}
-use mathlib.Core.Bool.{Bool, true, false, not, _||_}
+use mathlib.Core.Bool.{Bool, true, not}
 use mathlib.Core.Logic.{_≢_}
-use lib.Dec.{eqb, leb}
 use lib.ListN.{length}
 use Rattle.lock.specs.declared.Row.{Row}
 use Rattle.lock.specs.declared.LockState.{LockState}

@@ -5,14 +5,12 @@
 --     has-normal     the number may be taken for that of the place which it names
 use Prim.Native.Nat.{ℕ, _<_, _≤_}
 use native.Mathlib.Omega.{arith}
-use mathlib.Core.Path.{_≡_, refl, sym, subst, _∙_, ap}
+use mathlib.Core.Path.{_≡_, refl, sym, subst}
 use mathlib.Core.Bool.{Bool, true, false, _&&_, Bool·beq, cond}
 use mathlib.Core.List.{List, [], _∷_}
-use lib.ListN.{getD, List·getD-eq-default}
-use lib.Dec.{eqb, ltb}
+use lib.ListN.{getD}
+use lib.Dec.{ltb}
 use borrow.Author.Tests.{ltb-true, ne-eqb, le-ltb}
-use Rattle.lock.specs.declared.Row.{Row}
-use Rattle.lock.specs.declared.LockState.{LockState}
 use Rattle.choice.specs.Every.{every}
 use Rattle.choice.proofs.Tests.{clash, beq-eq, and-left, and-right}
 use Rattle.choice.proofs.Numbers.{every-at}

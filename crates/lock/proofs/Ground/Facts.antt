@@ -15,8 +15,8 @@ use native.Mathlib.Omega.{arith}
 use mathlib.Core.Path.{_≡_, refl, sym, ap, subst, _∙_}
 use mathlib.Core.Bool.{Bool, true, false, cond, not, _&&_, _||_}
 use mathlib.Core.List.{List, [], _∷_}
-use lib.Dec.{eqb, ltb, leb, lit<}
-use borrow.Author.Tests.{eqb-true, ltb-true, ltb-false, leb-true, ne-eqb}
+use lib.Dec.{eqb, ltb, leb}
+use borrow.Author.Tests.{eqb-true, ltb-true, ltb-false, ne-eqb}
 use Rattle.choice.specs.Every.{every}
 use Rattle.choice.proofs.Tests.{clash, implies}
 use Rattle.choice.proofs.Numbers.{every-at}

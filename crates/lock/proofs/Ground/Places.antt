@@ -4,16 +4,14 @@
 --     at-number          the same of the place at m
 --     at-place           a step at the place k does the act of k's name
 --     at-nowhere         a step at a number that is no place does nothing
-use Prim.Native.Nat.{ℕ, zero, suc, _+_, _≤_, _<_}
+use Prim.Native.Nat.{ℕ, zero, suc, _≤_, _<_}
 use native.Mathlib.Nat.{not-suc-le-zero, le-of-suc-le-suc, eq-or-lt-of-le}
-use native.Mathlib.Omega.{arith}
 use mathlib.Core.Path.{_≡_, refl, sym, ap, subst, _∙_}
-use mathlib.Core.Bool.{Bool, true, false, _&&_}
-use mathlib.Core.List.{List, [], _∷_}
+use mathlib.Core.Bool.{Bool, true, false}
 use mathlib.Core.Logic.{⊎-elim}
-use lib.ListN.{length, getD, List·getD-eq-default}
-use lib.Dec.{eqb, ltb, lit<}
-use borrow.Author.Tests.{eqb-true, ltb-true, ltb-false, ne-eqb}
+use lib.ListN.{List·getD-eq-default}
+use lib.Dec.{ltb}
+use borrow.Author.Tests.{ltb-true, ltb-false}
 use Rattle.choice.proofs.Numbers.{Avoids, avoids-far}
 use Rattle.lock.specs.State.{row}
 use Rattle.lock.specs.Sound.{places}

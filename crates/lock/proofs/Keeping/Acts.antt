@@ -5,7 +5,7 @@
 -- the order of their places.
 use Prim.Native.Nat.{ℕ}
 use mathlib.Core.Path.{_≡_, refl, ap}
-use mathlib.Core.Bool.{Bool, true, false, not, _&&_, or-true, cond}
+use mathlib.Core.Bool.{true, false, not, _&&_, or-true}
 use lib.Dec.{eqb}
 use borrow.Author.Tests.{lt-ltb}
 use Rattle.lock.specs.declared.LockState.{LockState}

@@ -1,6 +1,6 @@
 -- Any sequence of calls of the library's `event` from `LockState::fresh` is a run of the step table
 -- (calls-are-a-run). In order: what the fresh state's refusals leave, and one more call at the end of a run.
-use Prim.Native.Nat.{ℕ, zero, suc, _<_, _≤_}
+use Prim.Native.Nat.{ℕ, zero, suc, _<_}
 use native.Mathlib.Omega.{arith}
 use mathlib.Core.Path.{_≡_, refl, sym, ap, _∙_, subst}
 use mathlib.Core.Bool.{Bool, true, false, _||_, cond}

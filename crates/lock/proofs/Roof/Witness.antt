@@ -11,7 +11,6 @@ use native.Mathlib.Omega.{arith}
 use mathlib.Core.Path.{_≡_, refl}
 use mathlib.Core.Bool.{true}
 use mathlib.Core.List.{List, [], _∷_, _++_}
-use lib.ListN.{replicate}
 use lib.Dec.{lit≤}
 use borrow.Author.Tests.{eqb-false}
 use Rattle.lock.specs.State.{row}

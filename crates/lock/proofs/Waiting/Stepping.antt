@@ -7,8 +7,7 @@
 --     rows-after, size-after   the number of rows and N stay
 --     joins-own, joins-below, enters-own, enters-below     who joins or enters is the call's own processor, and below N
 --     inside-by-entry          one comes to place 9 only by its own entry
-use Prim.Native.Nat.{ℕ, _≤_, _<_}
-use native.Mathlib.Omega.{arith}
+use Prim.Native.Nat.{ℕ, _<_}
 use mathlib.Core.Path.{_≡_, refl, sym, ap, ap₂, _∙_, subst}
 use mathlib.Core.Bool.{Bool, true, false, _&&_, _||_, or-true}
 use mathlib.Core.Logic.{_≢_}
