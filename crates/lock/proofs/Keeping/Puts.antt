@@ -19,20 +19,13 @@ use Rattle.lock.specs.declared.Row.{Row}
 use Rattle.lock.specs.declared.LockState.{LockState}
 use Rattle.choice.specs.Every.{every}
 use Rattle.choice.proofs.Tests.{and-both, left-of}
-use Rattle.choice.proofs.Numbers.{by-same, every-at}
+use Rattle.choice.proofs.Numbers.{every-at}
 use Rattle.lock.specs.State.{processors, editions, none, isNone, RP, row, putRow, withNext, withLocked, withGuard, withFlag, withPlace, withPred, withSucc, withNx, putTail, putNext, putLocked, putGuard, putFlag, to, putPred, putSucc, putNx}
 use Rattle.lock.specs.Sound.{noneOrBelow, isThere, placeSound}
 use Rattle.lock.specs.Kept.{Whole}
-use Rattle.lock.proofs.Ground.Rows.{rows-put, row-put-same, row-put-other, put-far}
+use Rattle.lock.proofs.Ground.Rows.{rows-put, row-put-same, put-far}
 use Rattle.lock.proofs.Keeping.Parts.{Known, HasIn, CellsIn, Fits, ButPlace, Ready, standing, parts, joint, row-place, ready, whole}
-
--- what holds of the row put and of the rows that were holds of every row
-put-every :
-    (F : ℕ → Row → Type 0) (s : LockState) (q : ℕ) (r : Row) → q < length (s .rows) → ((i : ℕ) → F i (row s i)) → F q r
-    → (i : ℕ) → F i (row (putRow s q r) i)
-put-every F s q r room all new =
-    by-same (λ i. F i (row (putRow s q r) i)) q (rw (row-put-same s q r room) new)
-    (λ i d. rw (row-put-other s q r i d) (all i))
+use Rattle.lock.proofs.Ground.Writes.{put-all}
 
 -- what was known, and a further test of the edition
 abbrev pub also : Known → (ℕ → Bool) → Known
@@ -62,7 +55,7 @@ module _ {s : LockState} {p : ℕ} (x : ButPlace s p) where
         most = x .most;
         tail = x .tail;
         rows =
-            put-every (Fits (s .edition) (s .n) p) s q r (room q below) (x .rows)
+            put-all (Fits (s .edition) (s .n) p) s q r (x .rows)
             (record { cells = λ low. cells; place = λ low. place; fresh = λ far low. absurd (omega arith) });
         below = x .below;
       }
@@ -100,7 +93,7 @@ module _ {s : LockState} {p : ℕ} {k : Known} (x : Ready s p k) where
         base = put (x .base) q r below cells (λ d. place (x .base .rows q .place below d));
         edition = x .edition;
         own =
-            put-every (λ i r. i ≡ p → HasIn k r) s q r (room (x .base) q below) (λ i e. rw e (x .own))
+            put-all (λ i r. i ≡ p → HasIn k r) s q r (λ i e. rw e (x .own))
             (λ e. has (rw e (x .own))) p refl;
       }
 

@@ -5,7 +5,7 @@
 --     whoever                  what holds of the one that steps and of every other holds of each
 --     join-test, entry-test, interrupt-test      Run's tests on the step, as tests of the places before and after
 --     rows-after, size-after   the number of rows and N stay
---     joins-own, joins-below, enters-own, enters-below     who joins or enters is the call's own processor, and below N
+--     joins-own, joins-below, enters-below     who joins is the call's own processor; who joins or enters is below N
 --     inside-by-entry          one comes to place 9 only by its own entry
 use Prim.Native.Nat.{ℕ, _<_}
 use mathlib.Core.Path.{_≡_, refl, sym, ap, ap₂, _∙_, subst}
@@ -162,9 +162,6 @@ joins-own s c q h = steps-own s c q (joins-steps s c q h) .0
 
 pub joins-below : (s : LockState) (c : Call) (q : ℕ) → joins s c q ≡ true → q < s .n
 joins-below s c q h = steps-own s c q (joins-steps s c q h) .1
-
-pub enters-own : (s : LockState) (c : Call) (q : ℕ) → enters s c q ≡ true → c .processor ≡ q
-enters-own s c q h = steps-own s c q (enters-steps s c q h) .0
 
 pub enters-below : (s : LockState) (c : Call) (q : ℕ) → enters s c q ≡ true → q < s .n
 enters-below s c q h = steps-own s c q (enters-steps s c q h) .1
