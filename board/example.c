@@ -20,5 +20,6 @@ int main(void) {
     size_t length = pontivesca_log(schedule, bytes, log, room);
     size_t printed = fwrite(log, 1, length, stdout);
     free(log);
-    return length > 0 && printed == length ? 0 : 1;
+    /* what is still in stdout's buffer may yet fail to be written */
+    return length > 0 && printed == length && fflush(stdout) == 0 ? 0 : 1;
 }

@@ -1,8 +1,8 @@
 /* pontivesca.h: what a C program calls of libboard.a, the proved bench as a static library for x86-64 Linux.
  *
- * The library proves what these functions answer and which bytes they leave, for all arguments that are what they say:
- * a pointer is not NULL and points to at least that many bytes, also where that is 0, and `out` shares no byte with
- * `schedule`. Nothing is allocated or kept between calls. */
+ * What these functions answer and which bytes they leave is proved for all arguments that are what they say: a pointer
+ * is not NULL and points to at least that many bytes, also where that is 0, and `out` shares no byte with `schedule`.
+ * Nothing is allocated or kept between calls. */
 #ifndef PONTIVESCA_H
 #define PONTIVESCA_H
 
@@ -17,7 +17,8 @@ extern "C" {
 size_t pontivesca_room(size_t bytes);
 
 /* Runs a schedule and writes its log, as lockbench prints it, into the first bytes of `out`. Answers how many bytes
- * that is, 9 or more. Answers 0, and writes nothing, exactly where `room` is below pontivesca_room(bytes). */
+ * that is, 11 or more: the shortest log is an 05 line alone. Answers 0, and writes nothing, exactly where `room` is
+ * below pontivesca_room(bytes). */
 size_t pontivesca_log(const uint8_t *schedule, size_t bytes, uint8_t *out, size_t room);
 
 /* Writes a line of a schedule, `kind first second check` and a line feed, into the first bytes of `out`. Answers 9.

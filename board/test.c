@@ -1,7 +1,7 @@
 /* test.c: the library at its edges, and on a schedule of standard input.
  *
  *     test        a buffer too short by one byte, one that just fits, a schedule that is too long, no bytes at all,
- *                 and a line's buffer; says what is wrong and ends with 1, or ends with 0
+ *                 and a line's buffer; says what is wrong, prints how many edges it tried, and ends with 1 or 0
  *     test log    a schedule on standard input, its log on standard output */
 #include "pontivesca.h"
 
@@ -12,9 +12,11 @@ enum { LONGEST = 54009, MARK = 0xA5 };
 
 static uint8_t schedule[LONGEST + 2];
 static uint8_t out[17 * 6001 + 12];
+static int tried = 0;
 static int wrong = 0;
 
 static void expect(int holds, const char *what) {
+    tried++;
     if (!holds) {
         fprintf(stderr, "test: %s\n", what);
         wrong = 1;
@@ -75,8 +77,9 @@ int main(int count, char **arguments) {
     if (count == 2 && strcmp(arguments[1], "log") == 0) {
         size_t bytes = fread(schedule, 1, sizeof schedule, stdin);
         size_t length = pontivesca_log(schedule, bytes, out, sizeof out);
-        return length > 0 && fwrite(out, 1, length, stdout) == length ? 0 : 1;
+        return length > 0 && fwrite(out, 1, length, stdout) == length && fflush(stdout) == 0 ? 0 : 1;
     }
     edges();
+    printf("%d\n", tried);
     return wrong;
 }
