@@ -22,7 +22,7 @@ use Rattle.lock.specs.State.{processors, freshState, row}
 use Rattle.lock.specs.Event.{fresh, happens, isStep, accepted, refused, filler}
 use Rattle.lock.specs.Run.{Call, after, run, stepsOf, enters}
 use Rattle.frame.specs.Reading.{reads, restOf}
-use Rattle.bench.specs.Log.{longest, counted, marks, shown, answered, followed, turnOf, logFrom, begun, opened, logOf}
+use Rattle.bench.specs.Log.{longest, counted, marksOf, marks, shown, answered, followed, turnOf, logFrom, begun, opened, logOf}
 use Rattle.bench.specs.Bridge.{callOf, callsFrom, callsOf, rowsOf, areRead, areAccepted, editionOf, processorsOf, firstState, Accepted, EntryMark}
 
 both : (a b : Bool) → a && b ≡ true → (a ≡ true) × (b ≡ true)
@@ -120,7 +120,7 @@ reaches false false true = (λ _. refl, λ _. omega arith)
 reaches false false false = (λ h. absurd (omega arith), λ e. absurd (true≢false (sym e)))
 
 pub entry-mark : (s : LockState) (c : Call) → (happens s (c .event) (c .processor)) .refusal ≡ 0 → EntryMark s c
-unfolding marks
+unfolding marks marksOf
 entry-mark s c h =
     let r = row (after s c) (c .processor) in
     record {

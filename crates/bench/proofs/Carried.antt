@@ -1,12 +1,11 @@
 -- The loop over the later lines, part way: what it has written and what is still to come are the whole log.
---     begins         where the loop begins
---     turn-room      there is room for what a turn writes
---     turn-stops     after a turn that stops, the buffer holds the whole log
---     turn-goes-on   after one that goes on, the loop stands one line further
---     count-ends     at the end of the text, the count ends the log
---     turn-long, count-long   the buffer keeps its length
+--     begins                   where the loop begins
+--     long-still               the buffer keeps its length, whatever line is written
+--     stop-room, stops         a line that is refused: there is room for its refusal, and with it the log is whole
+--     show-room, goes-on       an event that is accepted: there is room for its row, and the loop stands one line further
+--     count-room, count-ends   at the end of the text there is room for the count, and with it the log is whole
 -- Assumes nothing.
-use Prim.Native.Nat.{ℕ, _+_, _-_, _≤_, _<_}
+use Prim.Native.Nat.{ℕ, suc, _+_, _≤_, _<_}
 use native.Mathlib.Omega.{arith}
 use native.Mathlib.Numerals.{add-one}
 use mathlib.Core.Path.{_≡_, refl, sym, ap, _∙_}
@@ -15,18 +14,17 @@ use mathlib.Core.Bool.{true, false, true≢false}
 use mathlib.Core.List.{List, _++_, append-assoc, append-nil}
 use lib.ListN.{length, take, drop, length-drop}
 use lib.Seq.{drop-drop}
-use borrow.Rule.Slice.PartMut.{midOf, putMid}
+use Rattle.lock.specs.declared.Row.{Row}
 use Rattle.lock.specs.declared.LockState.{LockState}
+use Rattle.lock.specs.State.{row}
 use Rattle.lock.specs.Kept.{Whole}
 use Rattle.frame.specs.Reading.{restOf}
-use Rattle.frame.specs.Writing.{leaves}
-use Rattle.bench.specs.Log.{counted, turnOf, logFrom}
-use Rattle.bench.specs.Steps.{turned, filled, laterLog, linesRoom}
-use Rattle.bench.proofs.Sizes.{count-size, GoesOn, Stops, turn-size}
+use Rattle.bench.specs.Log.{refusedAt, counted, rowShown, shown, Turn, stopped, turnOf, logFrom}
+use Rattle.bench.specs.Steps.{filled, laid, laterLog, linesRoom}
+use Rattle.bench.proofs.Sizes.{count-size, refusal-size, row-size, shown-size, GoesOn, Stops, turn-size}
 use Rattle.bench.proofs.Fuel.{log-ends, log-turns}
-use Rattle.bench.proofs.Sound.{turn-whole}
-use Rattle.bench.proofs.Parts.{Put, put, filled-by}
-use Rattle.bench.specs.declared.turns.Turned.{Turned}
+use Rattle.bench.proofs.Told.{shows}
+use Rattle.bench.proofs.Parts.{put, filled-by}
 
 -- Where the loop stands: `out` was `buffer`, `at` bytes of it are written, and the log of `text` from the state
 -- `first` on is what is written and what is still to come.
@@ -41,7 +39,8 @@ pub record Carried (text : List ℕ) (first : LockState) (buffer out rest : List
 
 pub begins : (text : List ℕ) (s : LockState) (buffer : List ℕ) → linesRoom text ≤ length buffer → Whole s →
     Carried text s buffer buffer text s 0 0
-begins text s buffer h w = record { long = refl; room = omega arith; kept = refl; log = refl; fewer = omega arith; sound = w }
+begins text s buffer h w =
+    record { long = refl; room = omega arith; kept = refl; log = refl; fewer = omega arith; sound = w }
 
 -- what is as it was from a place on is so from a later place on
 further : (at n : ℕ) (out buffer : List ℕ) → drop at out ≡ drop at buffer → drop (at + n) out ≡ drop (at + n) buffer
@@ -51,91 +50,77 @@ module _ (text : List ℕ) (first : LockState) (buffer out rest : List ℕ) (s :
     (i : Carried text first buffer out rest s accepted at) where
   -- the last line of the log is written
   ends : (line last : List ℕ) → logFrom (length rest) s accepted rest ≡ line → at + length line ≤ length out →
-      last ≡ leaves line (midOf at (length out - at) out) →
-      (at + length line ≡ length (laterLog first text))
-      × (putMid at (length out - at) out last ≡ filled (laterLog first text) buffer)
+      last ≡ laid at line out →
+      (at + length line ≡ length (laterLog first text)) × (last ≡ filled (laterLog first text) buffer)
   ends line last is room e =
-      let p = put at out line last room e in
-      filled-by (laterLog first text) buffer (putMid at (length out - at) out last) (at + length line)
-      (omega arith)
+      let p = put at out line room last e in
+      filled-by (laterLog first text) buffer last (at + length line)
+      (omega (arith, p .long))
       (p .front ∙ ap (λ (l : List ℕ). take at out ++ l) (sym is) ∙ i .log)
       (p .kept ∙ further at (length line) out buffer (i .kept))
 
-  pub count-ends : (last : List ℕ) → length rest ≤ 0 →
-      last ≡ leaves (counted accepted) (midOf at (length out - at) out) →
-      (at + 9 ≡ length (laterLog first text))
-      × (putMid at (length out - at) out last ≡ filled (laterLog first text) buffer)
-  count-ends last none e =
-      rw (count-size accepted) at (ends (counted accepted) last (log-ends (length rest) s accepted rest none)
-      (omega (arith, count-size accepted, i .room, i .long)) e)
+  -- the buffer keeps its length
+  pub long-still : (line last : List ℕ) → at + length line ≤ length out → last ≡ laid at line out →
+      length last ≡ length buffer
+  long-still line last room e = put at out line room last e .long ∙ i .long
 
-  pub count-long : (last : List ℕ) → last ≡ leaves (counted accepted) (midOf at (length out - at) out) →
-      length (putMid at (length out - at) out last) ≡ length buffer
-  count-long last e = put at out (counted accepted) last
-      (omega (arith, count-size accepted, i .room, i .long)) e .long ∙ i .long
+  pub count-room : at + length (counted accepted) ≤ length out
+  count-room = omega (arith, count-size accepted, i .room, i .long)
+
+  pub count-ends : length rest ≤ 0 → (size : ℕ) → size ≡ at + length (counted accepted) → (last : List ℕ) →
+      last ≡ laid at (counted accepted) out →
+      (size ≡ length (laterLog first text)) × (last ≡ filled (laterLog first text) buffer)
+  count-ends none size f last e =
+      rw f (ends (counted accepted) last (log-ends (length rest) s accepted rest none) count-room e)
 
   module _ (some : 0 < length rest) where
-    -- a turn that goes on has read nine bytes and writes 17, and one that stops writes 11
-    turn-fits : at + length ((turnOf s (accepted + 2) rest) .written) ≤ length out
-    turn-fits =
-        ⊎-elim
-        (λ (g : GoesOn (turnOf s (accepted + 2) rest) × (9 ≤ length rest)). omega (arith, i .room, i .long))
-        (λ (g : Stops (turnOf s (accepted + 2) rest)). omega (arith, i .room, i .long))
-        (turn-size s (accepted + 2) rest)
+    module _ (refusal : ℕ) (t : turnOf s (accepted + 2) rest ≡ stopped s refusal (accepted + 2)) where
+      pub stop-room : at + length (refusedAt refusal (accepted + 2)) ≤ length out
+      stop-room = omega (arith, refusal-size refusal (accepted + 2), i .room, i .long)
 
-    module _ (r : Turned) (e : r ≡ turned (turnOf s (accepted + 2) rest)) where
-      size-is : r .length ≡ length ((turnOf s (accepted + 2) rest) .written)
-      size-is = ap (λ t. t .length) e
+      pub stops : (size : ℕ) → size ≡ at + length (refusedAt refusal (accepted + 2)) → (last : List ℕ) →
+          last ≡ laid at (refusedAt refusal (accepted + 2)) out →
+          (size ≡ length (laterLog first text)) × (last ≡ filled (laterLog first text) buffer)
+      stops size f last e =
+          let line = refusedAt refusal (accepted + 2) in
+          rw f (ends line last (log-turns s accepted rest some ∙ simp t (append-nil line)) stop-room e)
 
-      more-is : r .more ≡ (turnOf s (accepted + 2) rest) .goesOn
-      more-is = ap (λ t. t .more) e
+    module _ (next : LockState) (event p : ℕ) (t : turnOf s (accepted + 2) rest ≡ shows next event p) (r : Row)
+        (g : r ≡ row next p) where
+      -- a turn that goes on has read nine bytes
+      nine : 9 ≤ length rest
+      nine =
+          ⊎-elim (λ (z : GoesOn (turnOf s (accepted + 2) rest) × (9 ≤ length rest)). z .1)
+          (λ (z : Stops (turnOf s (accepted + 2) rest)). absurd (true≢false (sym (ap (λ (u : Turn). u .goesOn) t) ∙ z .0)))
+          (turn-size s (accepted + 2) rest)
 
-      pub turn-room : at + r .length ≤ length out
-      turn-room = rw size-is turn-fits
+      line-is : rowShown p (next .tail) r event ≡ shown next event p
+      unfolding shown
+      line-is = ap (λ (x : Row). rowShown p (next .tail) x event) g
 
-      module _ (last : List ℕ)
-          (f : last ≡ leaves ((turnOf s (accepted + 2) rest) .written) (midOf at (length out - at) out)) where
-        is-put : Put at out ((turnOf s (accepted + 2) rest) .written) (putMid at (length out - at) out last)
-        is-put = put at out ((turnOf s (accepted + 2) rest) .written) last turn-fits f
+      pub show-room : at + length (rowShown p (next .tail) r event) ≤ length out
+      show-room = omega (arith, row-size p (next .tail) r event, nine, i .room, i .long)
 
-        pub turn-long : length (putMid at (length out - at) out last) ≡ length buffer
-        turn-long = is-put .long ∙ i .long
-
-        pub turn-stops : r .more ≡ false →
-            (at + r .length ≡ length (laterLog first text))
-            × (putMid at (length out - at) out last ≡ filled (laterLog first text) buffer)
-        turn-stops stop =
-            let t = turnOf s (accepted + 2) rest in
-            let so : t .goesOn ≡ false = sym more-is ∙ stop in
-            let last-line : logFrom (length rest) s accepted rest ≡ t .written =
-            log-turns s accepted rest some ∙ simp (so, append-nil) in
-            rw size-is (ends (t .written) last last-line turn-fits f)
-
-        pub turn-goes-on : r .more ≡ true → (later : List ℕ) → later ≡ restOf rest →
-            Carried text first buffer (putMid at (length out - at) out last) later (r .state) (accepted + 1)
-            (at + r .length)
-        turn-goes-on more later g =
-            let t = turnOf s (accepted + 2) rest in
-            let on : t .goesOn ≡ true = sym more-is ∙ more in
-            rw (g, e)
-            (⊎-elim
-            (λ (z : GoesOn t × (9 ≤ length rest)).
-            record {
-              long = turn-long;
-              room = omega (arith, i .room, length-drop 9 rest);
-              kept = is-put .kept ∙ further at (length (t .written)) out buffer (i .kept);
-              log =
-                  ap (λ (l : List ℕ). l ++ logFrom (length (restOf rest)) (t .next) (accepted + 1) (restOf rest))
-                  (is-put .front)
-                  ∙ append-assoc (take at out) (t .written)
-                  (logFrom (length (restOf rest)) (t .next) (accepted + 1) (restOf rest))
-                  ∙ ap (λ (l : List ℕ). take at out ++ l)
-                  (ap (λ (k : ℕ). t .written ++ logFrom (length (restOf rest)) (t .next) k (restOf rest))
-                  (add-one accepted)
-                  ∙ sym (log-turns s accepted rest some ∙ simp on))
-                  ∙ i .log;
-              fewer = omega (arith, i .fewer, length-drop 9 rest);
-              sound = turn-whole s (accepted + 2) rest (i .sound);
-            })
-            (λ (z : Stops t). absurd (true≢false (sym on ∙ z .0)))
-            (turn-size s (accepted + 2) rest))
+      pub goes-on : Whole next → (end : ℕ) → end ≡ at + length (rowShown p (next .tail) r event) → (last : List ℕ) →
+          last ≡ laid at (rowShown p (next .tail) r event) out → (later : List ℕ) → later ≡ restOf rest →
+          Carried text first buffer last later next (accepted + 1) end
+      goes-on w end f last e later h =
+          let line = rowShown p (next .tail) r event in
+          let is-put = put at out line show-room last e in
+          rw (h, f)
+          (record {
+            long = is-put .long ∙ i .long;
+            room = omega (arith, i .room, length-drop 9 rest, row-size p (next .tail) r event, nine);
+            kept = is-put .kept ∙ further at (length line) out buffer (i .kept);
+            log =
+                ap (λ (l : List ℕ). l ++ logFrom (length (restOf rest)) next (accepted + 1) (restOf rest))
+                (is-put .front)
+                ∙ append-assoc (take at out) line (logFrom (length (restOf rest)) next (accepted + 1) (restOf rest))
+                ∙ ap (λ (l : List ℕ). take at out ++ l)
+                (ap (λ (k : ℕ). line ++ logFrom (length (restOf rest)) next k (restOf rest)) (add-one accepted)
+                ∙ ap (λ (l : List ℕ). l ++ logFrom (length (restOf rest)) next (suc accepted) (restOf rest)) line-is
+                ∙ sym (log-turns s accepted rest some ∙ simp t))
+                ∙ i .log;
+            fewer = omega (arith, i .fewer, length-drop 9 rest, nine);
+            sound = w;
+          })

@@ -12,16 +12,12 @@ use Prim.Native.Char.{code}
 use Prim.Native.String.{String, [] as emptyText, _∷_ as _before_}
 use mathlib.Core.Path.{_≡_, refl}
 use mathlib.Core.List.{List, [], _∷_}
-use Rattle.choice.specs.Every.{every}
-use Rattle.lock.specs.State.{freshState, row, putRow, putTail, putNext, putLocked, putGuard, putFlag, to, putPred, putSucc, putNx}
-use Rattle.lock.specs.Sound.{hasPlace, cellsSound, placeSound, asFresh, soundRow, sound}
-use Rattle.lock.specs.Acts.{toQueue, toHand, onward, toLift, rest, gate, clear, swap, inside}
-use Rattle.lock.specs.Table.{stepped}
-use Rattle.lock.specs.Event.{fresh, raised, happens}
+use Rattle.lock.specs.Event.{fresh}
+use Rattle.lock.proofs.Opened as Opened
 use Rattle.frame.specs.Pairs.{valueOf, digitOf, pairAt, pairsFrom, sumOf, checkOf}
 use Rattle.frame.specs.Reading.{isTorn, areDigits, readAs}
 use Rattle.frame.specs.Writing.{digitsOf, lineOf}
-use Rattle.bench.specs.Log.{marks, shown, answered, followed, turnOf, logFrom, begun, opened, logOf}
+use Rattle.bench.specs.Log.{marksOf, marks, rowShown, shown, answered, followed, turnOf, logFrom, begun, opened, logOf}
 
 -- a text's bytes
 bytes : String → List ℕ
@@ -40,7 +36,8 @@ record Examples : Type 0 where
       ≡ bytes "010001FE\n030002FF00FF00FD\n030003FF00FF00FC\n0300090000FF04F1\n0300090000FF01F4\n040004F8\n"
 
 computed : Examples
-unfolding bytes every freshState row putRow putTail putNext putLocked putGuard putFlag to putPred putSucc putNx hasPlace cellsSound placeSound asFresh soundRow sound toQueue toHand onward toLift rest gate clear swap inside stepped fresh raised happens valueOf digitOf pairAt pairsFrom sumOf checkOf isTorn areDigits readAs digitsOf lineOf marks shown answered followed turnOf logFrom begun opened logOf
+unfolding bytes Opened.computed fresh valueOf digitOf pairAt pairsFrom sumOf checkOf isTorn areDigits readAs digitsOf
+    lineOf marksOf marks rowShown shown answered followed turnOf logFrom begun opened logOf
 computed =
     record {
       worked = refl;

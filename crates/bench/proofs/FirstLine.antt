@@ -1,5 +1,7 @@
 -- Line 1 and what follows it in the buffer.
 --     leaves-fills     a line that fits is what the buffer then begins with
+--     laid-first       so is a line that is laid from the first byte on
+--     refusal-room     there is room for the refusal of line 1
 --     open-refused     the refusal alone is the log of a refused line 1
 --     later-room       after line 1 there is room for the later lines
 --     begin-follows    line 1 as read, and the later lines behind it, are `begun`
@@ -20,7 +22,7 @@ use Rattle.frame.specs.Reading.{refusedBy, reads, restOf}
 use Rattle.frame.specs.Writing.{lineOf, leaves}
 use Rattle.frame.proofs.Proved.{lengths-are-known}
 use Rattle.bench.specs.Log.{refusedAt, logFrom, begun}
-use Rattle.bench.specs.Steps.{filled, laterLog, openedLog, linesRoom}
+use Rattle.bench.specs.Steps.{filled, laid, laterLog, openedLog, linesRoom}
 use Rattle.bench.proofs.Sizes.{refusal-size}
 use Rattle.bench.proofs.Told.{open-refuses}
 use Rattle.bench.proofs.Fuel.{fuel-same}
@@ -30,22 +32,28 @@ pub leaves-fills : (line buffer : List ℕ) → length line ≤ length buffer �
 unfolding leaves
 leaves-fills line buffer h = simp (le-leb (length line) (length buffer) h)
 
-pub open-refused : (text out : List ℕ) (n : ℕ) → linesRoom text ≤ length out → reads text true ≡ refusedBy n →
-    (last : List ℕ) → last ≡ leaves (refusedAt n 1) out →
-    (11 ≡ length (openedLog text)) × (last ≡ filled (openedLog text) out)
-open-refused text out n room e last f =
-    rw (open-refuses text n e)
-    (sym (refusal-size n 1), f ∙ leaves-fills (refusedAt n 1) out (omega (arith, refusal-size n 1)))
+-- a line from the first byte on
+pub laid-first : (line buffer : List ℕ) → laid 0 line buffer ≡ filled line buffer
+laid-first line buffer =
+    let same : 0 + length line ≡ length line = omega arith in
+    ap (λ (k : ℕ). line ++ drop k buffer) same
+
+pub refusal-room : (text out : List ℕ) (n : ℕ) → linesRoom text ≤ length out → 0 + length (refusedAt n 1) ≤ length out
+refusal-room text out n room = omega (arith, refusal-size n 1)
+
+pub open-refused : (text out : List ℕ) (n : ℕ) → reads text true ≡ refusedBy n → (size : ℕ) →
+    size ≡ 0 + length (refusedAt n 1) → (last : List ℕ) → last ≡ laid 0 (refusedAt n 1) out →
+    (size ≡ length (openedLog text)) × (last ≡ filled (openedLog text) out)
+open-refused text out n e size f last g =
+    rw (open-refuses text n e) (omega arith, g ∙ laid-first (refusedAt n 1) out)
 
 module _ (text out : List ℕ) (a : Answer) (room : linesRoom text ≤ length out) where
-  pub begin-refuses : eqb (a .refusal) 0 ≡ false → (last : List ℕ) → last ≡ leaves (refusedAt (a .refusal) 1) out →
-      (11 ≡ length (begun text a)) × (last ≡ filled (begun text a) out)
+  pub begin-refuses : eqb (a .refusal) 0 ≡ false → (size : ℕ) → size ≡ 0 + length (refusedAt (a .refusal) 1) →
+      (last : List ℕ) → last ≡ laid 0 (refusedAt (a .refusal) 1) out →
+      (size ≡ length (begun text a)) × (last ≡ filled (begun text a) out)
   unfolding begun
-  begin-refuses no-state last e =
-      simp no-state (
-        sym (refusal-size (a .refusal) 1),
-        e ∙ leaves-fills (refusedAt (a .refusal) 1) out (omega (arith, refusal-size (a .refusal) 1)),
-      )
+  begin-refuses no-state size f last e =
+      simp no-state (omega arith, e ∙ laid-first (refusedAt (a .refusal) 1) out)
 
   module _ (kind edition n : ℕ) (as-read : take 9 text ≡ lineOf (kind ∷ edition ∷ n ∷ [])) (front : List ℕ)
       (e : front ≡ leaves (lineOf (kind ∷ edition ∷ n ∷ [])) out) where

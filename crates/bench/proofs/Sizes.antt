@@ -1,5 +1,5 @@
 -- How long the lines of a log are, and what a turn that goes on has read.
---     row-size, count-size, refusal-size   17, 9 and 11 bytes
+--     row-size, shown-size, count-size, refusal-size   17, 17, 9 and 11 bytes
 --     cases                                a test holds or fails
 --     whole-nine                           a line that is read without refusal has its nine bytes
 --     turn-size                            a turn goes on after 17 bytes, from nine of the text, or stops after 11
@@ -12,6 +12,7 @@ use mathlib.Core.List.{List}
 use lib.ListN.{length}
 use lib.Dec.{eqb}
 use borrow.Author.Tests.{eqb-true}
+use Rattle.lock.specs.declared.Row.{Row}
 use Rattle.lock.specs.declared.LockState.{LockState}
 use Rattle.lock.specs.declared.Answer.{Answer}
 use Rattle.lock.specs.State.{row}
@@ -19,12 +20,16 @@ use Rattle.lock.specs.Event.{happens}
 use Rattle.frame.specs.Reading.{kindOf, reads}
 use Rattle.frame.proofs.Refusals.{whole-line, by-order}
 use Rattle.frame.proofs.Proved.{lengths-are-known}
-use Rattle.bench.specs.Log.{high, low, refusedAt, counted, marks, shown, Turn, second, third, answered, followed, turnOf}
+use Rattle.bench.specs.Log.{high, low, refusedAt, counted, marksOf, rowShown, shown, Turn, second, third, answered, followed, turnOf}
 
-pub row-size : (s : LockState) (event p : ℕ) → length (shown s event p) ≡ 17
+pub row-size : (p tail : ℕ) (r : Row) (event : ℕ) → length (rowShown p tail r event) ≡ 17
+unfolding rowShown
+row-size p tail r event =
+    lengths-are-known .row p (r .place) tail (r .locked) (r .next) (marksOf r event)
+
+pub shown-size : (s : LockState) (event p : ℕ) → length (shown s event p) ≡ 17
 unfolding shown
-row-size s event p =
-    lengths-are-known .row p ((row s p) .place) (s .tail) ((row s p) .locked) ((row s p) .next) (marks s event p)
+shown-size s event p = row-size p (s .tail) (row s p) event
 
 pub count-size : (accepted : ℕ) → length (counted accepted) ≡ 9
 count-size accepted = lengths-are-known .count (high accepted) (low accepted)
@@ -51,7 +56,7 @@ answered-size : (s : LockState) (line event p : ℕ) (a : Answer) →
 unfolding answered
 answered-size s line event p a =
     ⊎-elim
-    (λ (e : eqb (a .refusal) 0 ≡ true). inl (simp e, simp e (row-size (a .state) event p)))
+    (λ (e : eqb (a .refusal) 0 ≡ true). inl (simp e, simp e (shown-size (a .state) event p)))
     (λ (e : eqb (a .refusal) 0 ≡ false). inr (simp e, simp e (refusal-size (a .refusal) line)))
     (cases (eqb (a .refusal) 0))
 

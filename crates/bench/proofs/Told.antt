@@ -1,6 +1,6 @@
 -- What the definitions of a log come to, once it is known what the reader answers.
 --     refused-not-zero               a refusal of the reader is not 0
---     turn-answers, turn-refuses     a later line
+--     turn-shows, turn-stops, turn-refuses    a later line: its event accepted, or refused by the lock, or by the reader
 --     open-begins, open-refuses      line 1
 -- Assumes nothing.
 use Prim.Native.Nat.{ℕ}
@@ -11,16 +11,21 @@ use lib.Dec.{eqb}
 use native.Mathlib.Omega.{arith}
 use borrow.Author.Tests.{ne-eqb}
 use Rattle.lock.specs.declared.LockState.{LockState}
-use Rattle.lock.specs.Event.{fresh}
+use Rattle.lock.specs.declared.Answer.{Answer}
+use Rattle.lock.specs.Event.{fresh, happens}
 use Rattle.frame.specs.Pairs.{pairsFrom}
 use Rattle.frame.specs.Reading.{Told, refusedBy, kindOf, reads}
 use Rattle.frame.proofs.Refusals.{by-order, is-accepted}
-use Rattle.bench.specs.Steps.{eventTurn, openedLog}
-use Rattle.bench.specs.Log.{refusedAt, stopped, followed, turnOf, begun, opened}
+use Rattle.bench.specs.Steps.{openedLog}
+use Rattle.bench.specs.Log.{shown, refusedAt, Turn, stopped, answered, followed, turnOf, begun, opened}
 
 -- a frame's numbers as the reader says them
 abbrev pub framed : ℕ → ℕ → ℕ → ℕ → Told
 framed kind first second check = record { refusal = 0; numbers = kind ∷ first ∷ second ∷ check ∷ [] }
+
+-- a turn that goes on, with the row of the event's processor
+abbrev pub shows : LockState → ℕ → ℕ → Turn
+shows s event p = record { goesOn = true; written = shown s event p; next = s }
 
 four-are-some : (text : List ℕ) → [] ≡ pairsFrom 0 4 text → ⊥
 unfolding pairsFrom
@@ -34,10 +39,15 @@ refused-not-zero text isFirst n e =
     four-are-some text (ap (λ t. t .numbers) (sym e ∙ is-accepted 4 (kindOf isFirst) text (h .0) (h .1) (h .2) (h .3))))
 
 module _ (s : LockState) (line : ℕ) (text : List ℕ) where
-  pub turn-answers : (kind event p check : ℕ) → reads text false ≡ framed kind event p check →
-      turnOf s line text ≡ eventTurn s line event p
-  unfolding turnOf followed
-  turn-answers kind event p check e = ap (followed s line) e
+  module _ (kind event p check : ℕ) (e : reads text false ≡ framed kind event p check) (a : Answer)
+      (f : a ≡ happens s event p) where
+    pub turn-shows : eqb (a .refusal) 0 ≡ true → turnOf s line text ≡ shows (a .state) event p
+    unfolding turnOf followed answered
+    turn-shows g = ap (followed s line) e ∙ ap (answered s line event p) (sym f) ∙ simp g
+
+    pub turn-stops : eqb (a .refusal) 0 ≡ false → turnOf s line text ≡ stopped s (a .refusal) line
+    unfolding turnOf followed answered
+    turn-stops g = ap (followed s line) e ∙ ap (answered s line event p) (sym f) ∙ simp g
 
   pub turn-refuses : (n : ℕ) → reads text false ≡ refusedBy n → turnOf s line text ≡ stopped s n line
   unfolding turnOf followed

@@ -6,6 +6,7 @@ use mathlib.Core.Bool.{Bool, true, false, cond, _&&_}
 use mathlib.Core.List.{List, [], _∷_, _++_}
 use lib.ListN.{length, getD, take}
 use lib.Dec.{eqb, ltb}
+use Rattle.lock.specs.declared.Row.{Row}
 use Rattle.lock.specs.declared.LockState.{LockState}
 use Rattle.lock.specs.declared.Answer.{Answer}
 use Rattle.lock.specs.State.{row}
@@ -32,15 +33,21 @@ refusedAt refusal line = refusalLine refusal (high line) (low line)
 abbrev pub counted : ℕ → List ℕ
 counted accepted = countLine (high accepted) (low accepted)
 
--- "Marks: 1 flag, 2 guard, 4 this event was an entry, added." "An entry is a step that ends at 9."
-unfoldable pub marks : LockState → ℕ → ℕ → ℕ
-marks s event p =
-    cond ((row s p) .flag) 1 0 + cond ((row s p) .guard) 2 0 + cond (isStep event && eqb ((row s p) .place) 9) 4 0
+-- "Marks: 1 flag, 2 guard, 4 this event was an entry, added." "An entry is a step that ends at 9." The row is the one
+-- after the event.
+unfoldable pub marksOf : Row → ℕ → ℕ
+marksOf r event = cond (r .flag) 1 0 + cond (r .guard) 2 0 + cond (isStep event && eqb (r .place) 9) 4 0
 
--- "03 processor place L locked next marks check: written after each accepted event, with that processor's own row as
--- it then is"
+unfoldable pub marks : LockState → ℕ → ℕ → ℕ
+marks s event p = marksOf (row s p) event
+
+-- "03 processor place L locked next marks check"
+unfoldable pub rowShown : ℕ → ℕ → Row → ℕ → List ℕ
+rowShown p tail r event = rowLine p (r .place) tail (r .locked) (r .next) (marksOf r event)
+
+-- "written after each accepted event, with that processor's own row as it then is"
 unfoldable pub shown : LockState → ℕ → ℕ → List ℕ
-shown s event p = rowLine p ((row s p) .place) (s .tail) ((row s p) .locked) ((row s p) .next) (marks s event p)
+shown s event p = rowShown p (s .tail) (row s p) event
 
 -- What one later line makes: whether the schedule goes on after it, what is written, and the next state.
 pub record Turn : Type 0 where

@@ -1,26 +1,19 @@
--- The words in which the contracts of the inner functions say what the definitions of Log say. Their lines stand in
--- the lent buffer, so they hand on a line's length in its place.
+-- The words in which the contracts of the inner functions say what the definitions of Log say.
 use Prim.Native.Nat.{ℕ, _+_, _*_, _/_}
 use mathlib.Core.Bool.{true}
 use mathlib.Core.List.{List, _++_}
-use lib.ListN.{length, drop}
+use lib.ListN.{length, take, drop}
 use Rattle.lock.specs.declared.LockState.{LockState}
-use Rattle.lock.specs.Event.{happens}
 use Rattle.frame.specs.Reading.{reads}
-use Rattle.bench.specs.Log.{Turn, answered, logFrom, opened}
-use Rattle.bench.specs.declared.turns.Turned.{Turned}
-
--- a turn with its bytes counted
-abbrev pub turned : Turn → Turned
-turned t = record { more = t .goesOn; length = length (t .written); state = t .next }
+use Rattle.bench.specs.Log.{logFrom, opened}
 
 -- the bytes in a buffer's first bytes, and every byte after them as it was
 abbrev pub filled : List ℕ → List ℕ → List ℕ
 filled bytes buffer = bytes ++ drop (length bytes) buffer
 
--- the turn of an event
-abbrev pub eventTurn : LockState → ℕ → ℕ → ℕ → Turn
-eventTurn s line event p = answered s line event p (happens s event p)
+-- a line in a buffer from the byte `at` on, and every other byte as it was
+abbrev pub laid : ℕ → List ℕ → List ℕ → List ℕ
+laid at line buffer = take at buffer ++ (line ++ drop (at + length line) buffer)
 
 -- the log of the later lines, where none was accepted before
 abbrev pub laterLog : LockState → List ℕ → List ℕ

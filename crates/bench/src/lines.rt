@@ -1,10 +1,11 @@
-// Single lines of the log. A line that does not fit its buffer is not written; what the callers lend has the room.
-use lock::LockState;
+// Single lines of the log. Each goes into the lent buffer from a byte on, and the writer answers where it ends.
+use lock::Row;
 ghost use mathlib.Core.Path.{_≡_};
 ghost use mathlib.Core.Bool.{cond};
-ghost use Prim.Native.Nat.{_≤_};
-ghost use Rattle.frame.specs.Writing.{leaves};
-ghost use Rattle.bench.specs.Log.{high, low, refusedAt, counted, marks, shown};
+ghost use Prim.Native.Nat.{_+_, _≤_};
+ghost use lib.ListN.{length};
+ghost use Rattle.bench.specs.Log.{high, low, refusedAt, counted, marksOf, rowShown};
+ghost use Rattle.bench.specs.Steps.{laid};
 
 // The bytes of a 01 or 04 line, of an 03 line and of an 05 line.
 pub(crate) const FRAME: usize = 9;
@@ -40,24 +41,29 @@ pub(crate) fn low(k: usize) -> u8
 }
 
 // 05 refusal high low check
-pub(crate) fn write_refused_at(out: &mut [u8], refusal: u8, line: usize)
-    ensures { λ _. ⌜ now (out .exit) ≡ leaves (refusedAt refusal line) (now (out .entry)) ⌝ }
+pub(crate) fn write_refused_at(out: &mut [u8], at: usize, refusal: u8, line: usize) -> usize
+    requires { ⌜ at + length (refusedAt refusal line) ≤ length (now out) ⌝ }
+    ensures { λ r. ⌜ r ≡ at + length (refusedAt refusal line) ⌝ }
+    ensures { λ _. ⌜ now (out .exit) ≡ laid at (refusedAt refusal line) (now (out .entry)) ⌝ }
 {
-    frame::write_refusal(out, refusal, high(line), low(line));
+    frame::write_refusal(&mut out[at..], refusal, high(line), low(line));
+    at + REFUSAL
 }
 
 // 04 high low check
-pub(crate) fn write_counted(out: &mut [u8], accepted: usize)
-    ensures { λ _. ⌜ now (out .exit) ≡ leaves (counted accepted) (now (out .entry)) ⌝ }
+pub(crate) fn write_counted(out: &mut [u8], at: usize, accepted: usize) -> usize
+    requires { ⌜ at + length (counted accepted) ≤ length (now out) ⌝ }
+    ensures { λ r. ⌜ r ≡ at + length (counted accepted) ⌝ }
+    ensures { λ _. ⌜ now (out .exit) ≡ laid at (counted accepted) (now (out .entry)) ⌝ }
 {
-    frame::write_count(out, high(accepted), low(accepted));
+    frame::write_count(&mut out[at..], high(accepted), low(accepted));
+    at + FRAME
 }
 
-// The marks of processor p's row after an accepted event, added. A raise at a processor inside is no entry.
-pub(crate) fn marks(state: LockState, event: u8, p: u8) -> u8
-    ensures { λ r. ⌜ r ≡ marks state event p ⌝ }
+// The marks of a processor's row after an accepted event, added. A raise at a processor inside is no entry.
+pub(crate) fn marks(row: Row, event: u8) -> u8
+    ensures { λ r. ⌜ r ≡ marksOf row event ⌝ }
 {
-    let row = state.row(p);
     let entry = (event == STEP) & (row.place == INSIDE);
     mark(row.flag, FLAG) + mark(row.guard, GUARD) + mark(entry, ENTRY)
 }
@@ -70,11 +76,21 @@ fn mark(given: bool, weight: u8) -> u8
     if given { weight } else { 0 }
 }
 
-// 03 processor place L locked next marks check: processor p's row after an accepted event.
-pub(crate) fn write_shown(out: &mut [u8], state: LockState, event: u8, p: u8)
-    ensures { λ _. ⌜ now (out .exit) ≡ leaves (shown state event p) (now (out .entry)) ⌝ }
+// 03 processor place L locked next marks check: processor p's row after an accepted event, and L as it then is.
+pub(crate) fn write_shown(out: &mut [u8], at: usize, p: u8, tail: u8, row: Row, event: u8) -> usize
+    requires { ⌜ at + length (rowShown p tail row event) ≤ length (now out) ⌝ }
+    ensures { λ r. ⌜ r ≡ at + length (rowShown p tail row event) ⌝ }
+    ensures { λ _. ⌜ now (out .exit) ≡ laid at (rowShown p tail row event) (now (out .entry)) ⌝ }
 {
-    let row = state.row(p);
-    let given = marks(state, event, p);
-    frame::write_row(out, p, row.place, state.tail, row.locked, row.next, given);
+    let given = marks(row, event);
+    frame::write_row(
+        &mut out[at..],
+        p,
+        row.place,
+        tail,
+        row.locked,
+        row.next,
+        given,
+    );
+    at + ROW
 }

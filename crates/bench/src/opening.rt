@@ -39,8 +39,7 @@ pub(crate) fn begin(out: &mut [u8], schedule: &[u8], kind: u8, edition: u8, n: u
         let length = turns::follow(&mut out[lines::FRAME..], state, later);
         return lines::FRAME + length;
     }
-    lines::write_refused_at(out, refusal, 1);
-    lines::REFUSAL
+    lines::write_refused_at(out, 0, refusal, 1)
 }
 
 // Line 1 as the reader reads it.
@@ -51,10 +50,7 @@ pub(crate) fn open(out: &mut [u8], schedule: &[u8]) -> usize
 {
     match frame::read(schedule, true) {
         Line::Frame(kind, edition, n, _) => begin(out, schedule, kind, edition, n),
-        Line::Refused(refusal) => {
-            lines::write_refused_at(out, refusal, 1);
-            lines::REFUSAL
-        }
+        Line::Refused(refusal) => lines::write_refused_at(out, 0, refusal, 1),
     }
 }
 
@@ -87,11 +83,8 @@ pub fn bench(schedule: &[u8], out: &mut [u8]) -> Logged
     }
     let long = LONGEST < size;
     if long {
-        lines::write_refused_at(out, TOO_LONG, 0);
-        return Logged {
-            refusal: 0,
-            length: lines::REFUSAL,
-        };
+        let length = lines::write_refused_at(out, 0, TOO_LONG, 0);
+        return Logged { refusal: 0, length };
     }
     let length = open(out, schedule);
     Logged { refusal: 0, length }

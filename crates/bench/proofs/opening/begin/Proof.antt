@@ -7,7 +7,7 @@ use lib.ListN.{length, length-drop}
 use borrow.Author.Needs.{needs}
 use Rattle.lock.proofs.Keeping.{fresh-kept}
 use Rattle.bench.proofs.Room.{later-fits}
-use Rattle.bench.proofs.FirstLine.{later-room, begin-follows, begin-refuses}
+use Rattle.bench.proofs.FirstLine.{refusal-room, later-room, begin-follows, begin-refuses}
 use Rattle.bench.proofs.opening.begin.Statement.{statement}
 use Rattle.bench.proofs.opening.begin.Tie as tie
 
@@ -54,6 +54,11 @@ returns c =
     (w .before .before .before .if1 .taken) (r .rest .result .now) (r .rest .ensures)
     (f .follow .result) (f .follow .ensures .0) (f .follow .last .0) (f .follow .ensures .1))
 
+write-refused-at-requires : tie.Need-write-refused-at-requires
+write-refused-at-requires c κs =
+    let s = c .before .before .before .before .before in
+    refusal-room (now (s .args .schedule)) (now (s .args .out)) _ (s .pre .0)
+
 returns-2 : tie.Need-returns-2
 returns-2 c =
     let w = c .before .before in
@@ -61,7 +66,8 @@ returns-2 c =
     let s = a .before .before .before in
     simp (← a .fresh .ensures)
     (begin-refuses (now (s .args .schedule)) (now (s .args .out)) (a .fresh .result) (s .pre .0)
-    (w .before .before .if1 .left) (w .write-refused-at .last .0) (w .write-refused-at .ensures))
+    (w .before .before .if1 .left) (w .write-refused-at .result) (w .write-refused-at .ensures .0)
+    (w .write-refused-at .last .0) (w .write-refused-at .ensures .1))
 
 pub begin-spec : {M : Type 1} → statement M
 begin-spec =
@@ -77,6 +83,6 @@ begin-spec =
     add-result
     (λ c. search needs)
     returns
-    (λ c κs. search needs)
+    write-refused-at-requires
     (λ c. search needs)
     returns-2)

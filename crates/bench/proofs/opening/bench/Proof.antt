@@ -1,13 +1,13 @@
 -- `bench::opening::bench` meets its contract: the room is tested first, then refusal 1, and then the log is opened.
 -- Assumes nothing.
 use native.Mathlib.Omega.{arith}
-use mathlib.Core.Path.{sym, _∙_}
+use mathlib.Core.Path.{_∙_}
 use denote.Ref.{now}
 use borrow.Author.Needs.{needs}
 use Rattle.bench.specs.Log.{refusedAt}
 use Rattle.bench.specs.Steps.{openedLog}
 use Rattle.bench.proofs.Sizes.{refusal-size}
-use Rattle.bench.proofs.FirstLine.{leaves-fills}
+use Rattle.bench.proofs.FirstLine.{laid-first}
 use Rattle.bench.proofs.Whole.{is-short, is-logged, is-long, is-opened, has-room, long-room}
 use Rattle.bench.proofs.opening.bench.Statement.{statement}
 use Rattle.bench.proofs.opening.bench.Tie as tie
@@ -21,6 +21,17 @@ returns c =
     let a = start-of r .args in
     is-short (now (a .schedule)) (now (a .out)) (r .room-for .result) (r .room-for .ensures) (c .if1 .taken)
 
+write-refused-at-requires : tie.Need-write-refused-at-requires
+write-refused-at-requires c κs =
+    let t = c .before in
+    let r = t .before .before in
+    let a = start-of r .args in
+    omega (
+      arith,
+      refusal-size 1 0,
+      long-room (now (a .schedule)) (now (a .out)) (r .room-for .result) (r .room-for .ensures) (t .before .if1 .left),
+    )
+
 returns-2 : tie.Need-returns-2
 returns-2 c =
     let w = c .before .before in
@@ -28,15 +39,9 @@ returns-2 c =
     let r = t .before .before in
     let a = start-of r .args in
     is-logged (now (a .schedule)) (now (a .out)) (r .room-for .result) (r .room-for .ensures) (t .before .if1 .left)
-    (refusedAt 1 0) (is-long (now (a .schedule)) (t .if2 .taken)) 11 (sym (refusal-size 1 0))
-    (w .write-refused-at .last .0)
-    (w .write-refused-at .ensures
-    ∙ leaves-fills (refusedAt 1 0) (now (a .out))
-    (omega (
-      arith,
-      refusal-size 1 0,
-      long-room (now (a .schedule)) (now (a .out)) (r .room-for .result) (r .room-for .ensures) (t .before .if1 .left),
-    )))
+    (refusedAt 1 0) (is-long (now (a .schedule)) (t .if2 .taken)) (w .write-refused-at .result)
+    (omega (arith, w .write-refused-at .ensures .0)) (w .write-refused-at .last .0)
+    (w .write-refused-at .ensures .1 ∙ laid-first (refusedAt 1 0) (now (a .out)))
 
 open-requires : tie.Need-open-requires
 open-requires c κs =
@@ -62,7 +67,7 @@ bench-spec =
     (tie.spec
     (λ c κs. search needs)
     returns
-    (λ c κs. search needs)
+    write-refused-at-requires
     (λ c. search needs)
     returns-2
     open-requires

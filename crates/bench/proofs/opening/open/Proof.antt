@@ -9,7 +9,7 @@ use Rattle.frame.specs.Reading.{told}
 use Rattle.frame.proofs.Proved.{accepted-is-written}
 use Rattle.bench.specs.Steps.{filled}
 use Rattle.bench.proofs.Told.{open-begins}
-use Rattle.bench.proofs.FirstLine.{open-refused}
+use Rattle.bench.proofs.FirstLine.{refusal-room, open-refused}
 use Rattle.bench.proofs.opening.open.Statement.{statement}
 use Rattle.bench.proofs.opening.open.Tie as tie
 
@@ -21,6 +21,11 @@ begin-requires c κs =
       accepted-is-written (now (start .args .schedule)) true _ _ _ _
           (sym (from .before .before .read .ensures) ∙ ap told (from .kind .given .1)),
     )
+
+write-refused-at-requires : tie.Need-write-refused-at-requires
+write-refused-at-requires c κs =
+    let start = c .before .before .before .before .before .before .before in
+    refusal-room (now (start .args .schedule)) (now (start .args .out)) _ (start .pre)
 
 returns : tie.Need-returns
 returns c =
@@ -37,9 +42,10 @@ returns-2 : tie.Need-returns-2
 returns-2 c =
     let from = c .before .before .before .before .before in
     let start = from .before .before .before .before .before in
-    open-refused (now (start .args .schedule)) (now (start .args .out)) _ (start .pre)
+    let w = c .before .before .write-refused-at in
+    open-refused (now (start .args .schedule)) (now (start .args .out)) _
     (sym (from .before .before .read .ensures) ∙ ap told (from .refusal .given .1))
-    (c .before .before .write-refused-at .last .0) (c .before .before .write-refused-at .ensures)
+    (w .result) (w .ensures .0) (w .last .0) (w .ensures .1)
 
 pub open-spec : {M : Type 1} → statement M
 open-spec =
@@ -49,7 +55,7 @@ open-spec =
     (λ c. search needs)
     begin-requires
     (λ c. search needs)
-    (λ c κs. search needs)
+    write-refused-at-requires
     (λ c. search needs)
     returns
     (λ c. search needs)
