@@ -1,91 +1,70 @@
--- The log along a run.
---     both             what two tests together say of each
---     turn-is          the turn of a line that is read, and whose call is accepted
---     later-is-run     the log from a later line on, of lines and calls that are all accepted
---     fresh-is         an accepted fresh state is the fresh state
---     log-is-run       the whole log
---     rows-follow      the row after each call shows the state of the run then
---     entry-mark       the mark 4 is an entry
+-- The log along a run: where nothing is refused, and what its rows show.
+--     accepted-is-run     the log of a schedule with no refusal
+--     rows-follow         the row after each call shows the state of the run then
+--     entry-mark          the mark 4 is an entry
 -- Assumes nothing.
-use Prim.Native.Nat.{ℕ, zero, suc, _+_, _≤_}
+use Prim.Native.Nat.{ℕ, zero, suc, _+_, _*_, _≤_}
 use native.Mathlib.Omega.{arith}
 use mathlib.Core.Path.{_≡_, refl, sym, ap, _∙_}
 use mathlib.Core.Logic.{_↔_}
-use mathlib.Core.Bool.{Bool, true, false, cond, _&&_, _||_, true≢false}
+use mathlib.Core.Bool.{Bool, true, false, cond, _&&_, true≢false}
 use mathlib.Core.List.{List, [], _∷_, _++_, append-assoc, append-nil}
-use lib.ListN.{length, take}
-use lib.Dec.{eqb, ltb}
-use borrow.Author.Tests.{eq-eqb, le-ltb}
+use lib.ListN.{length, take, drop, length-drop}
+use lib.Dec.{eqb}
+use borrow.Author.Tests.{eq-eqb}
+use Rattle.choice.proofs.Tests.{and-left, and-right}
 use Rattle.lock.specs.declared.LockState.{LockState}
-use Rattle.lock.specs.declared.Answer.{Answer}
-use Rattle.lock.specs.State.{processors, freshState, row}
-use Rattle.lock.specs.Event.{fresh, happens, isStep, accepted, refused, filler}
+use Rattle.lock.specs.State.{row}
+use Rattle.lock.specs.Event.{happens, isStep}
 use Rattle.lock.specs.Run.{Call, after, run, stepsOf, enters}
 use Rattle.frame.specs.Reading.{reads, restOf}
-use Rattle.bench.specs.Log.{longest, counted, marksOf, marks, shown, answered, followed, turnOf, logFrom, begun, opened, logOf}
-use Rattle.bench.specs.Bridge.{callOf, callsFrom, callsOf, rowsOf, areRead, areAccepted, editionOf, processorsOf, firstState, Accepted, EntryMark}
+use Rattle.bench.specs.Log.{counted, marksOf, marks, shown, logOf}
+use Rattle.bench.specs.Bridge.{callOf, callsFrom, callsOf, rowsOf, areRead, areAccepted, firstState, firstRefusal, lineRefusal, heardFrom, ending, Accepted, EntryMark}
+use Rattle.bench.proofs.Hearing.{behind, log-is-run}
 
-both : (a b : Bool) → a && b ≡ true → (a ≡ true) × (b ≡ true)
-both true b e = (refl, e)
-both false b e = absurd (true≢false (sym e))
-
-turn-is : (s : LockState) (line : ℕ) (text : List ℕ) → eqb (reads text false .refusal) 0 ≡ true →
-    eqb ((happens s (callOf text .event) (callOf text .processor)) .refusal) 0 ≡ true →
-    turnOf s line text
-    ≡ record {
-      goesOn = true;
-      written = shown (after s (callOf text)) (callOf text .event) (callOf text .processor);
-      next = after s (callOf text);
-    }
-unfolding turnOf followed answered after
-turn-is s line text e f = simp (e, f)
-
-pub later-is-run : (fuel : ℕ) (s : LockState) (k : ℕ) (text : List ℕ) → areRead fuel text ≡ true →
+-- where every line is read and every call accepted, all of them are heard
+heard-same : (fuel : ℕ) (s : LockState) (text : List ℕ) → areRead fuel text ≡ true →
     areAccepted s (callsFrom fuel text) ≡ true →
-    logFrom fuel s k text ≡ rowsOf s (callsFrom fuel text) ++ counted (k + length (callsFrom fuel text))
-unfolding logFrom areRead areAccepted callsFrom rowsOf
-later-is-run zero s k text e f = ap counted (omega arith)
-later-is-run (suc fuel) s k [] e f = ap counted (omega arith)
-later-is-run (suc fuel) s k (b ∷ text) e f =
+    heardFrom fuel s text ≡ callsFrom fuel text
+unfolding areRead areAccepted callsFrom heardFrom lineRefusal
+heard-same zero s text e f = refl
+heard-same (suc fuel) s [] e f = refl
+heard-same (suc fuel) s (b ∷ text) e f =
     let t = b ∷ text in
     let c = callOf t in
-    let read = both (eqb (reads t false .refusal) 0) (areRead fuel (restOf t)) e in
-    let taken =
-    both (eqb ((happens s (c .event) (c .processor)) .refusal) 0)
-    (areAccepted (after s c) (callsFrom fuel (restOf t))) f in
-    simp (turn-is s (k + 2) t (read .0) (taken .0))
-    (ap (λ (l : List ℕ). shown (after s c) (c .event) (c .processor) ++ l)
-    (later-is-run fuel (after s c) (suc k) (restOf t) (read .1) (taken .1)
-    ∙ ap (λ (n : ℕ). rowsOf (after s c) (callsFrom fuel (restOf t)) ++ counted n) (omega arith))
-    ∙ sym (append-assoc (shown (after s c) (c .event) (c .processor)) (rowsOf (after s c) (callsFrom fuel (restOf t)))
-    (counted (k + suc (length (callsFrom fuel (restOf t)))))))
+    let read = eqb (reads t false .refusal) 0 in
+    let taken = eqb ((happens s (c .event) (c .processor)) .refusal) 0 in
+    let later = callsFrom fuel (restOf t) in
+    simp (and-left read (areRead fuel (restOf t)) e, and-left taken (areAccepted (after s c) later) f)
+    (ap (λ (l : List Call). c ∷ l)
+    (heard-same fuel (after s c) (restOf t) (and-right read (areRead fuel (restOf t)) e)
+    (and-right taken (areAccepted (after s c) later) f)))
 
--- of the two tests of a fresh state, only their both failing gives 0
-by-two : (six seven : Bool) (a b c : Answer) → a .refusal ≡ 6 → b .refusal ≡ 7 →
-    cond six a (cond seven b c) .refusal ≡ 0 →
-    cond six a (cond seven b c) ≡ c
-by-two true seven a b c p q e = absurd (omega arith)
-by-two false true a b c p q e = absurd (omega arith)
-by-two false false a b c p q e = refl
+-- and nothing is left of the text behind them
+calls-whole : (fuel : ℕ) (text : List ℕ) → length text ≤ fuel → drop (9 * length (callsFrom fuel text)) text ≡ []
+unfolding callsFrom
+calls-whole zero [] h = refl
+calls-whole zero (b ∷ text) h = absurd (omega arith)
+calls-whole (suc fuel) [] h = refl
+calls-whole (suc fuel) (b ∷ text) h =
+    sym (behind (length (callsFrom fuel (restOf (b ∷ text)))) (b ∷ text))
+    ∙ calls-whole fuel (restOf (b ∷ text)) (omega (arith, length-drop 9 (b ∷ text)))
 
-fresh-is : (e n : ℕ) → (fresh e n) .refusal ≡ 0 → fresh e n ≡ accepted (freshState e n)
-unfolding fresh
-fresh-is e n h =
-    by-two (ltb 2 e) (eqb n 0 || ltb processors n) (refused 6 filler) (refused 7 filler)
-    (accepted (freshState e n)) refl refl h
-
-pub log-is-run : (text : List ℕ) → Accepted text →
+pub accepted-is-run : (text : List ℕ) → Accepted text →
     logOf text ≡ take 9 text ++ (rowsOf (firstState text) (callsOf text) ++ counted (length (callsOf text)))
-unfolding logOf opened begun
-log-is-run text h =
-    simp (
-      le-ltb longest (length text) (h .length-is),
-      eq-eqb (reads text true .refusal) 0 (h .line-is),
-      fresh-is (editionOf text) (processorsOf text) (h .state-is),
-    )
-    (ap (λ (l : List ℕ). take 9 text ++ l)
-    (later-is-run (length text) (firstState text) 0 (restOf text) (h .lines-are) (h .calls-are)
-    ∙ ap (λ (n : ℕ). rowsOf (firstState text) (callsOf text) ++ counted n) (omega arith)))
+unfolding lineRefusal
+accepted-is-run text h =
+    let s = firstState text in
+    let same = heard-same (length text) s (restOf text) (h .lines-are) (h .calls-are) in
+    let whole = calls-whole (length text) (restOf text) (omega (arith, length-drop 9 text)) in
+    let first : firstRefusal text ≡ 0 = simp (eq-eqb (reads text true .refusal) 0 (h .line-is)) (h .state-is) in
+    log-is-run text .line-1-accepted (h .length-is) first
+    ∙ ap (λ (l : List ℕ). take 9 text ++ l)
+    (ap
+    (λ (cs : List Call).
+    rowsOf s cs ++ ending (lineRefusal (run s cs) (drop (9 * length cs) (restOf text))) (length cs)) same
+    ∙ ap (λ (t : List ℕ). rowsOf s (callsOf text) ++ ending (lineRefusal (run s (callsOf text)) t) (length (callsOf text)))
+    whole)
 
 pub rows-follow : (s : LockState) (before : List Call) (c : Call) →
     rowsOf s (before ++ (c ∷ [])) ≡ rowsOf s before ++ shown (run s (before ++ (c ∷ []))) (c .event) (c .processor)

@@ -8,6 +8,7 @@ pub mod Parts
 pub mod Carried
 pub mod FirstLine
 pub mod Whole
+pub mod Hearing
 pub mod Along
 pub mod Proved
 pub mod Examples

@@ -4,10 +4,11 @@ use native.Mathlib.Omega.{arith}
 use mathlib.Core.Path.{sym, _∙_}
 use lib.ListN.{length}
 use Rattle.bench.specs.Laws.{FuelDoesNotMatter, LogFitsItsRoom, OnlyOneAnswerFits}
-use Rattle.bench.specs.Bridge.{AcceptedLogIsARun, RowsFollowTheRun, EntryMarkIsAnEntry}
+use Rattle.bench.specs.Bridge.{EveryLogIsARun, AcceptedLogIsARun, RowsFollowTheRun, EntryMarkIsAnEntry}
 use Rattle.bench.proofs.Fuel.{fuel-same}
 use Rattle.bench.proofs.Room.{log-fits}
-use Rattle.bench.proofs.Along.{log-is-run, rows-follow, entry-mark}
+use Rattle.bench.proofs.Hearing.{log-is-run}
+use Rattle.bench.proofs.Along.{accepted-is-run, rows-follow, entry-mark}
 
 pub fuel-does-not-matter : FuelDoesNotMatter
 fuel-does-not-matter fuel s accepted text h = fuel-same fuel (length text) s accepted text h (omega arith)
@@ -22,8 +23,11 @@ only-one-answer-fits =
       to-room = λ bytes r s p q. p ∙ sym q;
     }
 
+pub every-log-is-a-run : EveryLogIsARun
+every-log-is-a-run text = log-is-run text
+
 pub accepted-log-is-a-run : AcceptedLogIsARun
-accepted-log-is-a-run text h = log-is-run text h
+accepted-log-is-a-run text h = accepted-is-run text h
 
 pub rows-follow-the-run : RowsFollowTheRun
 rows-follow-the-run s before c = rows-follow s before c

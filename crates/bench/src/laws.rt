@@ -1,7 +1,7 @@
 // The laws of logs as contracts: an empty function promises each, so that a check names it. The statements are those
 // of `specs/Laws.antt` and `specs/Bridge.antt`; nobody needs to call these.
 ghost use Rattle.bench.specs.Laws.{FuelDoesNotMatter, LogFitsItsRoom, OnlyOneAnswerFits};
-ghost use Rattle.bench.specs.Bridge.{AcceptedLogIsARun, RowsFollowTheRun, EntryMarkIsAnEntry};
+ghost use Rattle.bench.specs.Bridge.{EveryLogIsARun, AcceptedLogIsARun, RowsFollowTheRun, EntryMarkIsAnEntry};
 
 // The bound on the lines in the definition of a log changes nothing.
 pub fn fuel_does_not_matter()
@@ -16,6 +16,12 @@ pub fn log_fits_its_room()
 // Two answers that meet the contract of the bench are one.
 pub fn only_one_answer_fits()
     ensures { λ _. ⌜ OnlyOneAnswerFits ⌝ }
+{}
+
+// Every log is line 1, the rows along the run of the calls that are heard, and their number or the first refusal with its
+// line; or the refusal alone.
+pub fn every_log_is_a_run()
+    ensures { λ _. ⌜ EveryLogIsARun ⌝ }
 {}
 
 // The log of a schedule with no refusal is line 1, the rows along its run, and the number of its calls.
