@@ -19,7 +19,7 @@ use mathlib.Core.Path.{_≡_, refl}
 use mathlib.Core.List.{List, [], _∷_}
 use Rattle.lock.specs.Event.{fresh}
 use Rattle.lock.specs.Run.{Call}
-use Rattle.lock.proofs.Opened as Opened
+use Rattle.lock.proofs.Roof.Opened as Opened
 use Rattle.frame.specs.Pairs.{valueOf, digitOf, pairAt, pairsFrom, sumOf, checkOf}
 use Rattle.frame.specs.Reading.{isTorn, areDigits, readAs}
 use Rattle.frame.specs.Writing.{digitsOf, lineOf}

@@ -21,7 +21,7 @@ use Rattle.lock.specs.declared.Answer.{Answer}
 use Rattle.lock.specs.Event.{fresh, happens}
 use Rattle.lock.specs.Run.{Call, after, run}
 use Rattle.lock.specs.Claims.{made, IsRun}
-use Rattle.lock.proofs.Callers.{calls-are-a-run}
+use Rattle.lock.proofs.Roof.Callers.{calls-are-a-run}
 use Rattle.frame.specs.Reading.{reads, restOf}
 use Rattle.bench.specs.Log.{longest, refusedAt, counted, shown, stopped, answered, followed, turnOf, logFrom, begun, opened, logOf}
 use Rattle.bench.specs.Bridge.{callOf, rowsOf, areAccepted, editionOf, processorsOf, firstState, firstRefusal, lineRefusal, heardFrom, heardOf, unheardOf, refusalOf, ending, LogIsARun}
