@@ -1,7 +1,7 @@
 -- What a buffer holds while a line is written into it from its front.
 --     put-next     one byte is written behind what is written so far; the bytes after it are as they were
 --     put-value    the same of a value's two digits
---     put-goes-on, total-goes-on   the turn of a loop over the values
+--     put-goes-on  a loop over the values goes on
 --     writes-room, writes-short, leaves-room, leaves-short   what is answered and left, with room and without
 --     is-refused, is-written, leaves-line   the same of a line of values, as `write` comes to it
 -- Assumes nothing.
@@ -13,9 +13,8 @@ use mathlib.Core.List.{List, [], _∷_, _++_, append-assoc}
 use lib.ListN.{length, getD, take, drop, set, length-append}
 use lib.Seq.{drop-cons, set-at, append-snoc, take-suc, length-take-le}
 use borrow.Author.Tests.{le-leb, lt-leb}
-use Rattle.frame.specs.Pairs.{lineFeed, digitOf, sumOf, checkOf}
+use Rattle.frame.specs.Pairs.{lineFeed, digitOf, checkOf}
 use Rattle.frame.specs.Writing.{digitsOf, lineOf, writes, leaves}
-use Rattle.frame.proofs.Sums.{sum-of-last, negated-is-check}
 use Rattle.frame.proofs.Lines.{digits-append, digits-length, line-length}
 
 pub put-next : (written buffer : List ℕ) (n v : ℕ) → length written ≡ n → n < length buffer →
@@ -47,30 +46,19 @@ put-value vs buffer n v e h =
     ∙ ap (λ (l : List ℕ). l ++ drop (2 * n + 1 + 1) buffer) (two-digits vs v)
     ∙ ap (λ (m : ℕ). digitsOf (vs ++ (v ∷ [])) ++ drop m buffer) further
 
--- a loop over the values: what it has written, and the sum that it carries, with one value more
-module _ (values : List ℕ) (i : ℕ) (h : i < length values) where
-  taken : take i values ++ (getD values i 0 ∷ []) ≡ take (i + 1) values
-  taken = sym (take-suc values i 0 h) ∙ ap (λ (m : ℕ). take m values) (sym (add-one i))
-
-  pub put-goes-on : (buffer out : List ℕ) → 2 * length values ≤ length buffer →
-      out ≡ digitsOf (take i values) ++ drop (2 * i) buffer →
-      set (set out (2 * i) (digitOf (getD values i 0 / 16))) (2 * i + 1) (digitOf (getD values i 0 % 16))
-      ≡ digitsOf (take (i + 1) values) ++ drop (2 * (i + 1)) buffer
-  put-goes-on buffer out room so =
-      let v = getD values i 0 in
-      let further : 2 * i + 2 ≡ 2 * (i + 1) = omega arith in
-      ap (λ (l : List ℕ). set (set l (2 * i) (digitOf (v / 16))) (2 * i + 1) (digitOf (v % 16))) so
-      ∙ put-value (take i values) buffer i v (length-take-le i values (omega arith)) (omega arith)
-      ∙ ap (λ (l : List ℕ). digitsOf l ++ drop (2 * i + 2) buffer) taken
-      ∙ ap (λ (m : ℕ). digitsOf (take (i + 1) values) ++ drop m buffer) further
-
-  pub total-goes-on : (total next : ℕ) → total ≡ sumOf (take i values) → next ≡ (total + getD values i 0) % 256 →
-      next ≡ sumOf (take (i + 1) values)
-  total-goes-on total next so e =
-      e
-      ∙ ap (λ (n : ℕ). (n + getD values i 0) % 256) so
-      ∙ sym (sum-of-last (take i values) (getD values i 0))
-      ∙ ap sumOf taken
+-- a loop over the values goes on by one
+pub put-goes-on : (values buffer out : List ℕ) (i : ℕ) → i < length values → 2 * length values ≤ length buffer →
+    out ≡ digitsOf (take i values) ++ drop (2 * i) buffer →
+    set (set out (2 * i) (digitOf (getD values i 0 / 16))) (2 * i + 1) (digitOf (getD values i 0 % 16))
+    ≡ digitsOf (take (i + 1) values) ++ drop (2 * (i + 1)) buffer
+put-goes-on values buffer out i h room so =
+    let v = getD values i 0 in
+    let further : 2 * i + 2 ≡ 2 * (i + 1) = omega arith in
+    ap (λ (l : List ℕ). set (set l (2 * i) (digitOf (v / 16))) (2 * i + 1) (digitOf (v % 16))) so
+    ∙ put-value (take i values) buffer i v (length-take-le i values (omega arith)) (omega arith)
+    ∙ ap (λ (l : List ℕ). digitsOf l ++ drop (2 * i + 2) buffer) (sym (take-suc values i 0 h))
+    ∙ ap (λ (m : ℕ). digitsOf (take m values) ++ drop (2 * i + 2) buffer) (sym (add-one i))
+    ∙ ap (λ (m : ℕ). digitsOf (take (i + 1) values) ++ drop m buffer) further
 
 -- any line and any buffer: where it fits, where it does not
 module _ (line buffer : List ℕ) where
@@ -116,16 +104,13 @@ module _ (vs buffer : List ℕ) where
         ∙ ap (λ (n : ℕ). lineOf vs ++ drop n buffer) end
         ∙ sym (leaves-room (lineOf vs) buffer fits)
 
-    -- after the values' digits are put, then those of what negates their sum, then the line feed
-    pub leaves-line : (total check : ℕ) (first second : List ℕ) →
-        total ≡ sumOf vs → check < 256 → (check + total) % 256 ≡ 0 →
+    -- after the values' digits are put, then the check's, then the line feed
+    pub leaves-line : (check : ℕ) (first second : List ℕ) → check ≡ checkOf vs →
         first ≡ digitsOf vs ++ drop (2 * length vs) buffer →
         second ≡ set (set first (2 * length vs) (digitOf (check / 16))) (2 * length vs + 1) (digitOf (check % 16)) →
         set second (2 * length vs + 2) lineFeed ≡ leaves (lineOf vs) buffer
-    leaves-line total check first second sum byte zero e f =
+    leaves-line check first second is-check e f =
         let n = length vs in
-        let is-check : check ≡ checkOf vs =
-        negated-is-check vs check byte (ap (λ (n : ℕ). (check + n) % 256) (sym sum) ∙ zero) in
         ap (λ (l : List ℕ). set l (2 * length vs + 2) lineFeed)
         (f
         ∙ ap (λ (l : List ℕ). set (set l (2 * n) (digitOf (check / 16))) (2 * n + 1) (digitOf (check % 16))) e

@@ -1,6 +1,5 @@
 -- The digit's rule for reading beside its rule for writing, and pairs of digits. Both rules together are one computed
 -- test of every value below 16, and one of every byte up to F.
---     digit-low, digit-high     the bounds of a digit up to 9, and of one above
 --     digit-is-digit            the digit of v is a digit
 --     value-of-digit            and stands for v
 --     value-below               a digit stands for a number below 16
@@ -9,38 +8,28 @@
 --     pair-of-digits            the two digits of v make v
 --     digits-of-pair            the digits of what two digits make are those two
 -- Assumes nothing.
-use Prim.Native.Nat.{ℕ, _+_, _*_, _/_, _%_, _<_, _≤_}
+use Prim.Native.Nat.{ℕ, _+_, _*_, _/_, _%_, _<_}
 use native.Mathlib.Omega.{arith}
 use mathlib.Core.Path.{_≡_, refl, ap, _∙_}
-use mathlib.Core.Bool.{Bool, true, false, not, _&&_, _||_, and-eq-true-iff}
+use mathlib.Core.Bool.{Bool, true, false, _&&_, _||_}
 use mathlib.Core.Logic.{_⊎_, inl, inr, ⊎-elim}
 use lib.Dec.{leb, ltb, eqb}
 use borrow.Author.Tests.{leb-true, ltb-true, eqb-true}
 use Rattle.choice.specs.Every.{every}
 use Rattle.choice.proofs.Numbers.{every-at}
+use Rattle.choice.proofs.Tests.{and-left, and-right, implies, implied}
 use Rattle.frame.specs.Pairs.{isDigit, valueOf, digitOf}
 
 or-cases : (a b : Bool) → a || b ≡ true → (a ≡ true) ⊎ (b ≡ true)
 or-cases true b e = inl refl
 or-cases false b e = inr e
 
-range : (low high b : ℕ) → leb low b && leb b high ≡ true → (low ≤ b) × (b ≤ high)
-range low high b e =
-    let h = and-eq-true-iff (leb low b) (leb b high) .0 e in
-    (leb-true low b (h .0), leb-true b high (h .1))
-
-digit-cases : (b : ℕ) → isDigit b ≡ true → ((48 ≤ b) × (b ≤ 57)) ⊎ ((65 ≤ b) × (b ≤ 70))
-digit-cases b e =
-    ⊎-elim (λ h. inl (range 48 57 b h)) (λ h. inr (range 65 70 b h))
-    (or-cases (leb 48 b && leb b 57) (leb 65 b && leb b 70) e)
-
-pub digit-low : (b : ℕ) → isDigit b ≡ true → 48 ≤ b
-digit-low b e =
-    ⊎-elim (λ (h : (48 ≤ b) × (b ≤ 57)). omega arith) (λ (h : (65 ≤ b) × (b ≤ 70)). omega arith) (digit-cases b e)
-
-pub digit-high : (b : ℕ) → isDigit b ≡ true → b < 71
+digit-high : (b : ℕ) → isDigit b ≡ true → b < 71
 digit-high b e =
-    ⊎-elim (λ (h : (48 ≤ b) × (b ≤ 57)). omega arith) (λ (h : (65 ≤ b) × (b ≤ 70)). omega arith) (digit-cases b e)
+    ⊎-elim
+    (λ (h : leb 48 b && leb b 57 ≡ true). omega (arith, leb-true b 57 (and-right (leb 48 b) (leb b 57) h)))
+    (λ (h : leb 65 b && leb b 70 ≡ true). omega (arith, leb-true b 70 (and-right (leb 65 b) (leb b 70) h)))
+    (or-cases (leb 48 b && leb b 57) (leb 65 b && leb b 70) e)
 
 -- what is written of a value below 16 is read as that value
 back : ℕ → Bool
@@ -52,35 +41,34 @@ all-back = refl
 
 pub digit-is-digit : (v : ℕ) → v < 16 → isDigit (digitOf v) ≡ true
 unfolding back
-digit-is-digit v h =
-    and-eq-true-iff (isDigit (digitOf v)) (eqb (valueOf (digitOf v)) v) .0 (every-at 16 back all-back v h) .0
+digit-is-digit v h = and-left (isDigit (digitOf v)) (eqb (valueOf (digitOf v)) v) (every-at 16 back all-back v h)
 
 pub value-of-digit : (v : ℕ) → v < 16 → valueOf (digitOf v) ≡ v
 unfolding back
 value-of-digit v h =
     eqb-true (valueOf (digitOf v)) v
-    (and-eq-true-iff (isDigit (digitOf v)) (eqb (valueOf (digitOf v)) v) .0 (every-at 16 back all-back v h) .1)
+    (and-right (isDigit (digitOf v)) (eqb (valueOf (digitOf v)) v) (every-at 16 back all-back v h))
 
 -- what is read of a digit is written as that digit
-forth : ℕ → Bool
-forth b = not (isDigit b) || ltb (valueOf b) 16 && eqb (digitOf (valueOf b)) b
+there : ℕ → Bool
+there b = ltb (valueOf b) 16 && eqb (digitOf (valueOf b)) b
 
-all-forth : every 71 forth ≡ true
-unfolding every forth digitOf valueOf
-all-forth = refl
+all-there : every 71 (λ b. implies (isDigit b) (there b)) ≡ true
+unfolding every there digitOf valueOf
+all-there = refl
 
-forth-at : (b : ℕ) → isDigit b ≡ true → ltb (valueOf b) 16 && eqb (digitOf (valueOf b)) b ≡ true
-unfolding forth
-forth-at b e = rw e at (every-at 71 forth all-forth b (digit-high b e))
+there-at : (b : ℕ) → isDigit b ≡ true → there b ≡ true
+there-at b e =
+    implied (isDigit b) (there b) (every-at 71 (λ b. implies (isDigit b) (there b)) all-there b (digit-high b e)) e
 
 pub value-below : (b : ℕ) → isDigit b ≡ true → valueOf b < 16
-value-below b e =
-    ltb-true (valueOf b) 16 (and-eq-true-iff (ltb (valueOf b) 16) (eqb (digitOf (valueOf b)) b) .0 (forth-at b e) .0)
+unfolding there
+value-below b e = ltb-true (valueOf b) 16 (and-left (ltb (valueOf b) 16) (eqb (digitOf (valueOf b)) b) (there-at b e))
 
 pub digit-of-value : (b : ℕ) → isDigit b ≡ true → digitOf (valueOf b) ≡ b
+unfolding there
 digit-of-value b e =
-    eqb-true (digitOf (valueOf b)) b
-    (and-eq-true-iff (ltb (valueOf b) 16) (eqb (digitOf (valueOf b)) b) .0 (forth-at b e) .1)
+    eqb-true (digitOf (valueOf b)) b (and-right (ltb (valueOf b) 16) (eqb (digitOf (valueOf b)) b) (there-at b e))
 
 pub pair-below : (a b : ℕ) → isDigit a ≡ true → isDigit b ≡ true → valueOf a * 16 + valueOf b < 256
 pair-below a b ha hb = omega (arith, value-below a ha, value-below b hb)

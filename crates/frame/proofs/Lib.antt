@@ -3,6 +3,7 @@ pub mod Digits
 pub mod Sums
 pub mod Lines
 pub mod Buffers
+pub mod Pass
 pub mod Refusals
 pub mod Back
 pub mod Proved

@@ -1,7 +1,8 @@
 -- Lines of any number of pairs: what is written of values and what is read of a text.
 --     digit-within        where a line's bytes are digits, each is
 --     pairs-last          one pair more is read at the end
---     sum-goes-on         and summed
+--     pairs-length        as many pairs are read as are asked for
+--     first-pair          and the first of them comes first
 --     digits-append       the digits of values, one list of them after the other
 --     digits-length       two digits a value
 --     line-length         a line has two bytes for each value, two for the check and the line feed
@@ -12,16 +13,14 @@
 use Prim.Native.Nat.{ℕ, zero, suc, _+_, _*_, _/_, _%_, _<_, _≤_}
 use native.Mathlib.Omega.{arith}
 use native.Mathlib.Nat.{add-zero}
-use native.Mathlib.Numerals.{add-one}
 use mathlib.Core.Path.{_≡_, refl, sym, ap, _∙_}
 use mathlib.Core.Bool.{true}
 use mathlib.Core.List.{List, [], _∷_, _++_}
 use lib.ListN.{length, getD, take, length-append}
 use Rattle.choice.proofs.Numbers.{every-at, every-from}
-use Rattle.frame.specs.Pairs.{isDigit, digitOf, valueOf, byteAt, pairAt, pairsFrom, sumOf}
+use Rattle.frame.specs.Pairs.{isDigit, digitOf, valueOf, byteAt, pairAt, pairsFrom}
 use Rattle.frame.specs.Reading.{areDigits}
 use Rattle.frame.specs.Writing.{digitsOf, lineOf}
-use Rattle.frame.proofs.Sums.{sum-of-last}
 use Rattle.frame.proofs.Digits.{digit-is-digit, pair-of-digits, digits-of-pair}
 
 -- every value of the list is a byte
@@ -44,10 +43,15 @@ pairs-end i (suc k) text =
 pub pairs-last : (k : ℕ) (text : List ℕ) → pairsFrom 0 (suc k) text ≡ pairsFrom 0 k text ++ (pairAt text k ∷ [])
 pairs-last k text = pairs-end 0 k text ∙ ap (λ (n : ℕ). pairsFrom 0 k text ++ (pairAt text n ∷ [])) (omega arith)
 
-pub sum-goes-on : (text : List ℕ) (i total pair next : ℕ) → total ≡ sumOf (pairsFrom 0 i text) → pair ≡ pairAt text i →
-    next ≡ (total + pair) % 256 → next ≡ sumOf (pairsFrom 0 (i + 1) text)
-sum-goes-on text i total pair next so here e =
-    cc (sum-of-last (pairsFrom 0 i text) (pairAt text i), pairs-last i text, add-one i)
+pub pairs-length : (i k : ℕ) (text : List ℕ) → length (pairsFrom i k text) ≡ k
+unfolding pairsFrom
+pairs-length i zero text = refl
+pairs-length i (suc k) text = ap suc (pairs-length (suc i) k text)
+
+pub first-pair : (k : ℕ) (text numbers : List ℕ) → 0 < k → numbers ≡ pairsFrom 0 k text → getD numbers 0 0 ≡ pairAt text 0
+unfolding pairsFrom
+first-pair zero text numbers h e = absurd (omega arith)
+first-pair (suc k) text numbers h e = ap (λ (ns : List ℕ). getD ns 0 0) e
 
 pub digits-append : (us vs : List ℕ) → digitsOf (us ++ vs) ≡ digitsOf us ++ digitsOf vs
 unfolding digitsOf

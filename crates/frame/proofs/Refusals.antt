@@ -1,23 +1,22 @@
 -- The reader's refusals, by their order.
 --     whole-line      a line that is not torn has all its bytes, and ends in a line feed
---     pair-ready      in a whole line of digits every pair can be read
+--     said-refused, said-accepted      a number and what stands beside it
 --     is-two .. is-five, is-accepted   an answer from its condition and those before it
---     refused-says    a refusal is its number and no frame
 --     by-order        and back: each is given exactly then
 -- Assumes nothing.
-use Prim.Native.Nat.{ℕ, _+_, _*_, _<_, _≤_}
+use Prim.Native.Nat.{ℕ, _+_, _*_, _≤_}
 use native.Mathlib.Omega.{arith}
-use mathlib.Core.Path.{_≡_, refl, sym, ap, _∙_}
+use mathlib.Core.Path.{_≡_, refl, ap}
 use mathlib.Core.Logic.{_↔_, _⊎_, inl, inr, ⊎-elim, _≢_}
-use mathlib.Core.Bool.{Bool, true, false, cond, not, _||_, true≢false}
+use mathlib.Core.Bool.{Bool, true, false, not, _||_, true≢false}
 use mathlib.Core.List.{List}
 use lib.ListN.{length}
 use lib.Dec.{ltb, eqb}
 use borrow.Author.Tests.{ltb-false, eqb-true, eqb-false, not-false, eq-eqb, ne-eqb}
-use Rattle.frame.specs.Pairs.{isDigit, byteAt, pairAt, pairsFrom, sumOf, lineFeed}
-use Rattle.frame.specs.Reading.{Told, refusedBy, isTorn, areDigits, readAs, bytesOf}
+use Rattle.choice.proofs.Tests.{clash}
+use Rattle.frame.specs.Pairs.{byteAt, pairAt, pairsFrom, sumOf, lineFeed}
+use Rattle.frame.specs.Reading.{Told, refusedBy, said, isTorn, areDigits, readAs, bytesOf}
 use Rattle.frame.specs.Laws.{ByOrder, RefusalsGoByOrder}
-use Rattle.frame.proofs.Lines.{digit-within}
 
 neither : (a b : Bool) → a || b ≡ false → (a ≡ false) × (b ≡ false)
 neither true b e = absurd (true≢false e)
@@ -31,43 +30,30 @@ whole-line k text e =
     let both = neither (ltb (length text) (bytesOf k)) (not (eqb last lineFeed)) e in
     (ltb-false (length text) (bytesOf k) (both .0), eqb-true last lineFeed (not-false (eqb last lineFeed) (both .1)))
 
-pub pair-ready : (k : ℕ) (text : List ℕ) → isTorn k text ≡ false → areDigits k text ≡ true → (i : ℕ) → i < k →
-    (2 * i + 1 < length text) × ((isDigit (byteAt text (2 * i)) ≡ true) × (isDigit (byteAt text (2 * i + 1)) ≡ true))
-pair-ready k text whole digits i h =
-    let long = whole-line k text whole .0 in
-    let digit = digit-within k text digits in
-    (omega arith, (digit (2 * i) (omega arith), digit (2 * i + 1) (omega arith)))
+-- a number and what stands beside it, by whether there is a refusal
+pub said-refused : (number : ℕ) (numbers : List ℕ) → number ≢ 0 → said number numbers ≡ refusedBy number
+said-refused number numbers n = simp (ne-eqb number 0 n)
 
--- a chain of refusals that ends in a frame, where it does not come to the frame, says a number and nothing else
-abbrev chain : Bool → Bool → Bool → Bool → Told → Told
-chain two three four five frame =
-    cond two (refusedBy 2) (cond three (refusedBy 3) (cond four (refusedBy 4) (cond five (refusedBy 5) frame)))
-
-chain-says : (two three four five : Bool) (frame : Told) → frame .refusal ≡ 0 →
-    chain two three four five frame .refusal ≢ 0 →
-    chain two three four five frame ≡ refusedBy (chain two three four five frame .refusal)
-chain-says true b c d frame z n = refl
-chain-says false true c d frame z n = refl
-chain-says false false true d frame z n = refl
-chain-says false false false true frame z n = refl
-chain-says false false false false frame z n = absurd (n z)
+pub said-accepted : (number : ℕ) (numbers : List ℕ) → number ≡ 0 →
+    said number numbers ≡ record { refusal = 0; numbers = numbers }
+said-accepted number numbers e = simp (eq-eqb number 0 e)
 
 module _ (k kind : ℕ) (text : List ℕ) where
-  pub is-two : isTorn k text ≡ true → readAs k kind text .refusal ≡ 2
+  pub is-two : isTorn k text ≡ true → readAs k kind text ≡ refusedBy 2
   unfolding readAs
   is-two torn = simp torn
 
-  pub is-three : isTorn k text ≡ false → areDigits k text ≡ false → readAs k kind text .refusal ≡ 3
+  pub is-three : isTorn k text ≡ false → areDigits k text ≡ false → readAs k kind text ≡ refusedBy 3
   unfolding readAs
   is-three whole bad = simp (whole, bad)
 
   pub is-four : isTorn k text ≡ false → areDigits k text ≡ true →
-      sumOf (pairsFrom 0 k text) ≢ 0 → readAs k kind text .refusal ≡ 4
+      sumOf (pairsFrom 0 k text) ≢ 0 → readAs k kind text ≡ refusedBy 4
   unfolding readAs
   is-four whole digits off = simp (whole, digits, ne-eqb (sumOf (pairsFrom 0 k text)) 0 off)
 
   pub is-five : isTorn k text ≡ false → areDigits k text ≡ true →
-      sumOf (pairsFrom 0 k text) ≡ 0 → pairAt text 0 ≢ kind → readAs k kind text .refusal ≡ 5
+      sumOf (pairsFrom 0 k text) ≡ 0 → pairAt text 0 ≢ kind → readAs k kind text ≡ refusedBy 5
   unfolding readAs
   is-five whole digits summed other =
       simp (whole, digits, eq-eqb (sumOf (pairsFrom 0 k text)) 0 summed, ne-eqb (pairAt text 0) kind other)
@@ -79,14 +65,6 @@ module _ (k kind : ℕ) (text : List ℕ) where
   is-accepted whole digits summed begun =
       simp (whole, digits, eq-eqb (sumOf (pairsFrom 0 k text)) 0 summed, eq-eqb (pairAt text 0) kind begun)
 
-  pub refused-says : readAs k kind text .refusal ≢ 0 → readAs k kind text ≡ refusedBy (readAs k kind text .refusal)
-  unfolding readAs
-  refused-says n =
-      let four = not (eqb (sumOf (pairsFrom 0 k text)) 0) in
-      let five = not (eqb (pairAt text 0) kind) in
-      chain-says (isTorn k text) (not (areDigits k text)) four five
-      (record { refusal = 0; numbers = pairsFrom 0 k text }) refl n
-
 bool-cases : (b : Bool) → (b ≡ true) ⊎ (b ≡ false)
 bool-cases true = inl refl
 bool-cases false = inr refl
@@ -94,20 +72,20 @@ bool-cases false = inr refl
 equal-or-not : (m n : ℕ) → (m ≡ n) ⊎ (m ≢ n)
 equal-or-not m n = ⊎-elim (λ e. inl (eqb-true m n e)) (λ e. inr (eqb-false m n e)) (bool-cases (eqb m n))
 
-clash : {b : Bool} → b ≡ true → b ≡ false → ⊥
-clash p q = true≢false (sym p ∙ q)
-
 holds : {A B : Type 0} → A → B → A ↔ B
 holds a b = (λ _. b, λ _. a)
 
 fails : {A B : Type 0} → (A → ⊥) → (B → ⊥) → A ↔ B
 fails f g = (λ a. absurd (f a), λ b. absurd (g b))
 
+number-of : {s t : Told} → s ≡ t → s .refusal ≡ t .refusal
+number-of e = ap (λ (t : Told). t .refusal) e
+
 -- the five cases, each with the refusal that it has and the four that it has not
 module _ (k kind : ℕ) (text : List ℕ) where
   torn-case : isTorn k text ≡ true → ByOrder k kind text
   torn-case t =
-      let r = is-two k kind text t in
+      let r = number-of (is-two k kind text t) in
       record {
         two = holds r t;
         three = fails (λ e. omega arith) (λ h. clash t (h .0));
@@ -120,7 +98,7 @@ module _ (k kind : ℕ) (text : List ℕ) where
   module _ (w : isTorn k text ≡ false) where
     undigit-case : areDigits k text ≡ false → ByOrder k kind text
     undigit-case d =
-        let r = is-three k kind text w d in
+        let r = number-of (is-three k kind text w d) in
         record {
           two = fails (λ e. omega arith) (λ t. clash t w);
           three = holds r (w, d);
@@ -133,7 +111,7 @@ module _ (k kind : ℕ) (text : List ℕ) where
     module _ (d : areDigits k text ≡ true) where
       unsummed-case : sumOf (pairsFrom 0 k text) ≢ 0 → ByOrder k kind text
       unsummed-case s =
-          let r = is-four k kind text w d s in
+          let r = number-of (is-four k kind text w d s) in
           record {
             two = fails (λ e. omega arith) (λ t. clash t w);
             three = fails (λ e. omega arith) (λ h. clash d (h .1));
@@ -146,7 +124,7 @@ module _ (k kind : ℕ) (text : List ℕ) where
       module _ (s : sumOf (pairsFrom 0 k text) ≡ 0) where
         other-case : pairAt text 0 ≢ kind → ByOrder k kind text
         other-case b =
-            let r = is-five k kind text w d s b in
+            let r = number-of (is-five k kind text w d s b) in
             record {
               two = fails (λ e. omega arith) (λ t. clash t w);
               three = fails (λ e. omega arith) (λ h. clash d (h .1));
@@ -158,7 +136,7 @@ module _ (k kind : ℕ) (text : List ℕ) where
 
         accepted-case : pairAt text 0 ≡ kind → ByOrder k kind text
         accepted-case b =
-            let r : readAs k kind text .refusal ≡ 0 = ap (λ t. t .refusal) (is-accepted k kind text w d s b) in
+            let r = number-of (is-accepted k kind text w d s b) in
             record {
               two = fails (λ e. omega arith) (λ t. clash t w);
               three = fails (λ e. omega arith) (λ h. clash d (h .1));

@@ -74,7 +74,8 @@ pub record ByOrder (k kind : ℕ) (text : List ℕ) : Type 0 where
 abbrev pub RefusalsGoByOrder : Type 0
 RefusalsGoByOrder = (k kind : ℕ) (text : List ℕ) → ByOrder k kind text
 
--- `read`, by what its answer says; `rest`; and every `write` function, whose line is a definition of its values alone
+-- `read`, by what its answer says; `rest`; and every `write` function, whose line is a definition of its values alone.
+-- That the functions' own contracts say what is supposed here, `src/told.rt` shows.
 pub record OnlyOneAnswerFits : Type 0 where
   pub to-read : (text : List ℕ) (isFirst : Bool) (r s : Line) →
       told r ≡ reads text isFirst → told s ≡ reads text isFirst → r ≡ s

@@ -1,22 +1,34 @@
 -- Document 01, "Frames": "A frame is pairs of upper-case hexadecimal digits and a line feed. The last pair is the check: the sum
--- of all pairs, wrapping at 256, is 0." The digit's rule for reading and for writing, pairs, and the sum. Lines of any length.
+-- of all pairs, wrapping at 256, is 0." For lines of any number of pairs.
+--     lineFeed                     what ends a line
+--     isDigit, valueOf             the digit's rule for reading; worthOf, a byte as the reader takes it
+--     digitOf                      the digit's rule for writing
+--     byteAt, pairAt, pairsFrom    the bytes and the pairs of a text
+--     sumOf, checkOf               the sum of all pairs, and what brings it to 0
 use Prim.Native.Nat.{ℕ, zero, suc, _+_, _-_, _*_, _%_}
-use mathlib.Core.Bool.{Bool, true, cond, _&&_, _||_}
+use mathlib.Core.Bool.{Bool, cond, _&&_, _||_}
 use mathlib.Core.List.{List, [], _∷_}
 use lib.ListN.{getD}
 use lib.Dec.{ltb, leb}
 
--- the line feed
 abbrev pub lineFeed : ℕ
 lineFeed = 10
 
--- Reading: the byte b is "0-9 or A-F"
+-- Reading: the byte b is "0-9 or A-F". 48 to 57 are the bytes of 0 to 9, and 65 to 70 those of A to F.
 abbrev pub isDigit : ℕ → Bool
 isDigit b = leb 48 b && leb b 57 || leb 65 b && leb b 70
 
 -- and stands for 0 to 9, or for 10 to 15
 unfoldable pub valueOf : ℕ → ℕ
 valueOf b = cond (leb b 57) (b - 48) (b - 55)
+
+-- 16, which no digit stands for
+abbrev pub noDigit : ℕ
+noDigit = 16
+
+-- a byte as the reader takes it: a digit for what it stands for, and any other byte for no digit
+unfoldable pub worthOf : ℕ → ℕ
+worthOf b = cond (isDigit b) (valueOf b) noDigit
 
 -- Writing: the upper-case digit of v, below 16
 unfoldable pub digitOf : ℕ → ℕ

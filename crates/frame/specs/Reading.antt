@@ -1,4 +1,8 @@
 -- Document 01, "Frames" and "What is turned away", 2 to 5: what the reader answers to a text, and the part that follows a line.
+--     Told, told, refusedBy, said   what an answer says: the refusal's number and the frame's numbers
+--     bytesOf, isTorn, areDigits    the tests of a line of k pairs
+--     readAs, kindOf, reads         what is said of a line: of k pairs and a given kind; of the line that is wanted
+--     restOf                        the part that follows
 use Prim.Native.Nat.{ℕ, _+_, _*_}
 use mathlib.Core.Bool.{Bool, cond, not, _||_}
 use mathlib.Core.List.{List, [], _∷_}
@@ -21,6 +25,10 @@ told (Refused number) = record { refusal = number; numbers = [] }
 
 abbrev pub refusedBy : ℕ → Told
 refusedBy number = record { refusal = number; numbers = [] }
+
+-- the same of a refusal's number, 0 for none, and of the numbers that stand beside it where there is none
+abbrev pub said : ℕ → List ℕ → Told
+said number numbers = cond (eqb number 0) (record { refusal = 0; numbers = numbers }) (refusedBy number)
 
 -- the bytes of a line of k pairs: "Lines read are 4 pairs, so 9 bytes"
 abbrev pub bytesOf : ℕ → ℕ

@@ -1,4 +1,7 @@
 -- Document 01, "Frames": the line that is written of given values, and what a lent buffer holds afterwards.
+--     digitsOf, lineOf    the line of any values
+--     writes, leaves      what is answered, and what is left in the buffer
+--     headerLine, rowLine, countLine, refusalLine    the lines 01, 03, 04 and 05
 use Prim.Native.Nat.{ℕ, _/_, _%_}
 use mathlib.Core.Bool.{cond}
 use mathlib.Core.List.{List, [], _∷_, _++_}

@@ -1,5 +1,5 @@
 -- `frame::pairs::put_pairs` meets its contract. The loop's invariant: the buffer begins with the digits of the values
--- passed and is as it was after them, and `total` is their sum.
+-- passed and is as it was after them.
 -- Assumes nothing.
 use Prim.Native.Nat.{_*_, _-_, _≤_}
 use native.Mathlib.Nat.{le-antisymm}
@@ -9,54 +9,46 @@ use mathlib.Core.List.{_++_}
 use lib.ListN.{length, take, drop}
 use lib.Seq.{take-all}
 use denote.Ref.{now}
-use Rattle.frame.specs.Pairs.{sumOf}
 use Rattle.frame.specs.Writing.{digitsOf}
-use Rattle.frame.proofs.Buffers.{put-goes-on, total-goes-on}
-use borrow.Author.Needs.{needs}
+use Rattle.frame.proofs.Buffers.{put-goes-on}
 use Rattle.frame.proofs.pairs.put_pairs.Statement.{statement}
 use Rattle.frame.proofs.pairs.put_pairs.Tie as tie
 
 abbrev Inv-loop : tie.InvT-loop
-Inv-loop out₀ values total₀ i₀ out total i =
-    (i ≤ length values)
-    × (total ≡ sumOf (take i values))
-    × (out ≡ digitsOf (take i values) ++ drop (2 * i) out₀)
-    × (length out ≡ length out₀)
+Inv-loop out₀ values i₀ out i =
+    (i ≤ length values) × (out ≡ digitsOf (take i values) ++ drop (2 * i) out₀) × (length out ≡ length out₀)
 
 abbrev μ-loop : tie.MeasureT-loop
-μ-loop out₀ values total₀ i₀ out total i = length values - i
+μ-loop out₀ values i₀ out i = length values - i
 
 loop-holds : tie.Need-loop-holds Inv-loop μ-loop
-unfolding sumOf digitsOf
-loop-holds c = (omega arith, refl, refl, refl)
+unfolding digitsOf
+loop-holds c = (omega arith, refl, refl)
 
 loop-again : tie.Need-loop-again Inv-loop μ-loop
 loop-again c =
-    let turn = c .before .before .before .before .before .before in
+    let turn = c .before .before .before .before .before in
     let start = turn .before .before .before .before in
-    let values = now (start .args .values) in (
+    let put = c .before .before .put-pair in (
       omega arith,
-      total-goes-on values _ (turn .loop-test .taken) _ _ (turn .before .loop .inv .1) (c .wrapping-add-u8 .ensures),
-      c .before .before .before .put-pair .ensures
-          ∙ put-goes-on values _ (turn .loop-test .taken) _ _ (start .pre) (turn .before .loop .inv .2),
-      c .before .before .before .put-pair .kept .0 ∙ turn .before .loop .inv .3,
+      put .ensures ∙ put-goes-on _ _ _ _ (turn .loop-test .taken) (start .pre) (turn .before .loop .inv .1),
+      put .kept .0 ∙ turn .before .loop .inv .2,
     )
 
 same-length : tie.Need-same-length Inv-loop μ-loop
-same-length c = c .before .loop .inv .3
+same-length c = c .before .loop .inv .2
 
 returns : tie.Need-returns Inv-loop μ-loop
 returns c =
     let start = c .before .before .before .before in
     let values = now (start .args .values) in
     let out = now (start .args .out) in
-    let all : take (c .before .loop .i) values ≡ values = take-all _ values (c .loop-test .left) in
-    let end = le-antisymm (c .before .loop .inv .0) (c .loop-test .left) in (
-      c .before .loop .inv .1 ∙ ap sumOf all,
-      c .before .loop .inv .2
-          ∙ ap (λ l. digitsOf l ++ drop (2 * c .before .loop .i) out) all
-          ∙ ap (λ n. digitsOf values ++ drop (2 * n) out) end,
-    )
+    let i = c .before .loop .i in
+    let all : take i values ≡ values = take-all i values (c .loop-test .left) in
+    let end : i ≡ length values = le-antisymm (c .before .loop .inv .0) (c .loop-test .left) in
+    c .before .loop .inv .1
+    ∙ ap (λ l. digitsOf l ++ drop (2 * i) out) all
+    ∙ ap (λ n. digitsOf values ++ drop (2 * n) out) end
 
 pub put-pairs-spec : {M : Type 1} → statement M
 put-pairs-spec =
@@ -67,7 +59,6 @@ put-pairs-spec =
     loop-holds
     (λ c. omega arith)
     (λ c κs. omega arith)
-    (λ c κs. search needs)
     (λ c. omega arith)
     (λ c. omega arith)
     loop-again

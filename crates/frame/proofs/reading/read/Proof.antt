@@ -1,73 +1,54 @@
 -- `frame::reading::read` meets its contract: a refusal is its number and no frame; an accepted line is its four pairs.
 -- Assumes nothing.
-use Prim.Native.Nat.{ℕ, _+_, _*_, _<_}
+use Prim.Native.Nat.{ℕ}
 use native.Mathlib.Omega.{arith}
-use mathlib.Core.Path.{_≡_, sym, ap, _∙_}
-use mathlib.Core.Bool.{true, false}
+use mathlib.Core.Path.{_≡_, refl, sym, ap, _∙_}
 use mathlib.Core.List.{List, [], _∷_}
-use lib.ListN.{length}
+use lib.ListN.{length, getD}
 use denote.Ref.{now}
 use borrow.Author.Needs.{needs}
-use Rattle.frame.specs.Pairs.{isDigit, byteAt, pairAt, pairsFrom, sumOf}
-use Rattle.frame.specs.Reading.{Told, refusedBy, isTorn, areDigits, readAs, kindOf}
-use Rattle.frame.proofs.Refusals.{pair-ready, refused-says, is-accepted, by-order}
+use Rattle.frame.specs.Reading.{said, readAs, reads}
+use Rattle.frame.proofs.Refusals.{said-refused, said-accepted}
 use Rattle.frame.proofs.reading.read.Statement.{statement}
 use Rattle.frame.proofs.reading.read.Tie as tie
 
-four : (text : List ℕ) (a b c d : ℕ) → a ≡ pairAt text 0 → b ≡ pairAt text 1 → c ≡ pairAt text 2 → d ≡ pairAt text 3 →
-    _≡_ {A = Told} (record { refusal = 0; numbers = a ∷ b ∷ c ∷ d ∷ [] })
-    (record { refusal = 0; numbers = pairsFrom 0 4 text })
-unfolding pairsFrom
-four text a b c d ea eb ec ed = cc
+-- a list of four numbers is those four
+four : (ns : List ℕ) → length ns ≡ 4 → getD ns 0 0 ∷ getD ns 1 0 ∷ getD ns 2 0 ∷ getD ns 3 0 ∷ [] ≡ ns
+four [] e = absurd (omega arith)
+four (a ∷ []) e = absurd (omega arith)
+four (a ∷ b ∷ []) e = absurd (omega arith)
+four (a ∷ b ∷ c ∷ []) e = absurd (omega arith)
+four (a ∷ b ∷ c ∷ d ∷ []) e = refl
+four (a ∷ b ∷ c ∷ d ∷ x ∷ l) e = absurd (omega arith)
 
-abbrev start : tie.After-refusal → tie.Start
-start c = c .before .before .before
-
-abbrev text : tie.After-refusal → List ℕ
-text c = now (start c .args .text)
-
-abbrev wanted : tie.After-refusal → ℕ
-wanted c = kindOf (start c .args .is-first)
-
-refusal-is : (c : tie.After-refusal) → c .refusal .result ≡ readAs 4 (wanted c) (text c) .refusal
-refusal-is c = c .refusal .ensures ∙ ap (λ kind. readAs 4 kind (text c) .refusal) (c .before .kind-of .ensures)
+-- what is said of the line, once `read_line` has answered
+line-says : (c : tie.After-read-line) →
+    said (c .read-line .result) (c .read-line .last .1 .1 .0)
+    ≡ reads (now (c .before .before .before .before .args .text)) (c .before .before .before .before .args .is-first)
+line-says c =
+    c .read-line .ensures
+    ∙ ap (λ kind. readAs 4 kind (now (c .before .before .before .before .args .text))) (c .before .before .kind-of .ensures)
 
 returns : tie.Need-returns
-returns c =
-    let is = refusal-is (c .before) in
-    ap refusedBy is ∙ sym (refused-says 4 (wanted (c .before)) (text (c .before)) (λ z. c .if1 .taken (is ∙ z)))
-
--- what the test for no refusal has shown
-accepted : (c : tie.Else1) →
-    (isTorn 4 (text (c .before)) ≡ false)
-    × (areDigits 4 (text (c .before)) ≡ true)
-    × (sumOf (pairsFrom 0 4 (text (c .before))) ≡ 0)
-    × (pairAt (text (c .before)) 0 ≡ wanted (c .before))
-accepted c = by-order 4 (wanted (c .before)) (text (c .before)) .none .0 (sym (refusal-is (c .before)) ∙ c .if1 .left)
-
-ready : (c : tie.Else1) (i : ℕ) → i < 4 →
-    (2 * i + 1 < length (text (c .before)))
-    × ((isDigit (byteAt (text (c .before)) (2 * i)) ≡ true) × (isDigit (byteAt (text (c .before)) (2 * i + 1)) ≡ true))
-ready c = pair-ready 4 (text (c .before)) (accepted c .0) (accepted c .1)
+returns c = sym (said-refused _ _ (c .if1 .taken)) ∙ line-says (c .before .before)
 
 returns-2 : tie.Need-returns-2
 returns-2 c =
-    let first = c .before .before .before in
-    let here = first .before in
-    let so = accepted here in
-    let second = c .before .before .pair2 .ensures in
-    four (text (here .before)) _ _ _ _ (first .pair .ensures) second (c .before .pair3 .ensures) (c .pair4 .ensures)
-    ∙ sym (is-accepted 4 (wanted (here .before)) (text (here .before)) (so .0) (so .1) (so .2) (so .3))
+    let answer = c .before .before .read-line in
+    ap (λ ns. record { refusal = 0; numbers = ns }) (four (answer .last .1 .1 .0) (answer .kept .1 .1 .0))
+    ∙ sym (said-accepted _ _ (c .if1 .left))
+    ∙ line-says (c .before .before)
 
 pub read-spec : {M : Type 1} → statement M
 read-spec =
     tie.close
     (tie.spec
     (λ c κs. search needs)
+    (λ c. search needs)
     (λ c κs. search needs)
     returns
-    (λ c κs. ready c 0 (omega arith))
-    (λ c κs. ready (c .before) 1 (omega arith))
-    (λ c κs. ready (c .before .before) 2 (omega arith))
-    (λ c κs. ready (c .before .before .before) 3 (omega arith))
+    (λ c. search needs)
+    (λ c. search needs)
+    (λ c. search needs)
+    (λ c. search needs)
     returns-2)
