@@ -108,12 +108,12 @@ pub fn not_reachable(edition: u8, side: &Side) -> Option<&'static str> {
 
 /// How often each side was taken, by edition.
 pub struct Counts {
-    pub taken: [[u64; SIDES.len()]; 3],
+    pub taken: [[u64; SIDES.len()]; EDITIONS.len()],
 }
 
 impl Counts {
     pub fn new() -> Counts {
-        Counts { taken: [[0; SIDES.len()]; 3] }
+        Counts { taken: [[0; SIDES.len()]; EDITIONS.len()] }
     }
 
     /// Counts one step of p. The sides of a test exclude each other and leave nothing out, so exactly one holds.
@@ -140,7 +140,7 @@ pub fn label(edition: u8, side: &Side) -> String {
 pub fn print() -> (String, bool) {
     let mut counts = Counts::new();
     // A raise has no place; it is counted by whether the flag was clear or already set.
-    let mut raises = [[0u64; 2]; 3];
+    let mut raises = [[0u64; 2]; EDITIONS.len()];
     let mut refusals = [0u64; 10];
     for i in 0..random::SCHEDULES {
         let (_, refusal) = bench::follow(&random::schedule(i), |h| {
@@ -169,7 +169,7 @@ pub fn print() -> (String, bool) {
             }
         }
     };
-    for edition in PLAIN..=GUARDED {
+    for edition in PLAIN..=LAST_EDITION {
         for (i, side) in SIDES.iter().enumerate() {
             if side.editions.contains(&edition) {
                 line(label(edition, side), counts.taken[edition as usize][i], not_reachable(edition, side));

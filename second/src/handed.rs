@@ -1,29 +1,85 @@
 //! Handed: the states handed in at random of docs/RANDOM.md, each with one event, and what comes back.
+//! First what document 01 says of places, then a trial's state, damage, event and answer, then the lines printed.
+//! How near the states come to each test of soundness is counted in edges.rs.
 
-use crate::coverage::{self, Counts, SIDES};
+use crate::cell::{Cell, CELLS, PRIVATE_CELLS, ROW_CELLS, STATE_CELLS};
 use crate::lock::*;
 use crate::random::{self, Random};
+use std::panic::catch_unwind;
 
 /// How many states are handed in.
-const TRIALS: u64 = 20_000;
+pub const TRIALS: u64 = 60_000;
 /// How many of them share a printed line.
-const BLOCK: u64 = 200;
+const BLOCK: u64 = 600;
+
+/// Near its limit the edition, locked or the place is any number below these.
+const EDITIONS_TRIED: u8 = 5;
+const LOCKED_TRIED: u8 = 5;
+const PLACES_TRIED: u8 = 32;
+/// What a place needs is taken away at these places, and at those beside them that do not need it.
+const FIRST_WITHOUT_PRED: u8 = SWAP;
+const LAST_WITHOUT_PRED: u8 = SPIN;
+const FIRST_WITHOUT_SUCC: u8 = AWAIT;
+const LAST_WITHOUT_SUCC: u8 = 28;
+const FIRST_WITHOUT_NX: u8 = PEEK;
+const LAST_WITHOUT_NX: u8 = LIFT;
+
+/// In the place of a refusal when the event fails in the middle, as it can on a state that should have been refused.
+const FAILED: u8 = 255;
+
+/// The places of each edition, in rising order. Document 01's lists stand here and in `needs` apart from sound.rs:
+/// a fault there must not change the states that are to show it.
+const PLACES_OF: [&[u8]; EDITIONS.len()] = [
+    &[0, 2, 3, 4, 5, 7, 9, 14, 15, 16, 17],
+    &[0, 2, 3, 4, 5, 6, 7, 8, 9, 10, 11, 12, 13, 14, 15, 16, 17, 19, 20, 21],
+    &[0, 1, 2, 3, 4, 5, 6, 7, 8, 9, 10, 11, 12, 13, 14, 15, 16, 17, 18, 19, 20, 21, 22],
+];
+
+/// Whether an edition in range has a place.
+pub fn edition_has(edition: u8, place: u8) -> bool {
+    PLACES_OF[edition as usize].contains(&place)
+}
+
+/// Whether a place needs a processor in a private cell.
+pub fn needs(place: u8, cell: Cell) -> bool {
+    match cell {
+        Cell::Pred => (ARM..=CLAIM).contains(&place),
+        Cell::Succ => (HAND..=LIFT).contains(&place),
+        Cell::Nx => place == TAKE,
+        _ => false,
+    }
+}
 
 /// A state, sound or not, and the event handed in with it.
-struct Trial {
-    lock: Lock,
-    event: u8,
-    processor: u8,
+pub struct Trial {
+    pub lock: Lock,
+    pub event: u8,
+    pub processor: u8,
 }
 
 /// A draw for one byte, `k` from 1 to 256.
-fn draw(random: &mut Random, k: u64) -> u8 {
-    random.draw(k) as u8
+fn draw(random: &mut Random, k: u16) -> u8 {
+    random.draw(k as u64) as u8
+}
+
+/// A draw below a limit that is itself a byte.
+fn below(random: &mut Random, limit: u8) -> u8 {
+    draw(random, limit as u16)
+}
+
+/// A draw from `first` to `last`.
+fn between(random: &mut Random, first: u8, last: u8) -> u8 {
+    first + below(random, last - first + 1)
+}
+
+/// The (draw M)-th of a list of M.
+fn pick<T: Copy>(random: &mut Random, list: &[T]) -> T {
+    list[random.draw(list.len() as u64) as usize]
 }
 
 /// A `ref`: a processor below N, or none.
 fn reference(random: &mut Random, n: u8) -> u8 {
-    let v = draw(random, n as u64 + 1);
+    let v = below(random, n + 1);
     if v == n {
         NONE
     } else {
@@ -35,167 +91,155 @@ fn reference(random: &mut Random, n: u8) -> u8 {
 fn private(random: &mut Random, n: u8, needed: bool) -> u8 {
     let v = reference(random, n);
     if v == NONE && needed {
-        draw(random, n as u64)
+        below(random, n)
     } else {
         v
     }
 }
 
-/// Trial t. The draws stand in the order of the page.
-fn trial(t: u64) -> Trial {
-    let random = &mut Random { x: (t * 7919 + 29) % 2147483648 };
-    let edition = draw(random, 3);
-    let n = 1 + draw(random, 16);
-    let places: Vec<u8> = (REST..=LIFT).filter(|&place| has(edition, place)).collect();
+/// A sound state.
+fn sound_state(random: &mut Random) -> Lock {
+    let edition = draw(random, EDITIONS.len() as u16);
+    let n = 1 + below(random, MOST);
     let tail = reference(random, n);
     let mut lock = Lock { edition, n, tail, rows: [FRESH_ROW; MOST as usize] };
     for row in lock.rows[..n as usize].iter_mut() {
         row.next = reference(random, n);
-        row.locked = draw(random, 4);
+        row.locked = below(random, R_P + 1);
         row.guard = draw(random, 2) == 1;
         row.flag = draw(random, 2) == 1;
-        row.place = places[draw(random, places.len() as u64) as usize];
-        row.pred = private(random, n, needs_pred(row.place));
-        row.succ = private(random, n, needs_succ(row.place));
-        row.nx = private(random, n, row.place == TAKE);
+        row.place = pick(random, PLACES_OF[edition as usize]);
+        row.pred = private(random, n, needs(row.place, Cell::Pred));
+        row.succ = private(random, n, needs(row.place, Cell::Succ));
+        row.nx = private(random, n, needs(row.place, Cell::Nx));
     }
-    assert!(lock.sound(), "the state is sound before a cell is broken");
+    lock
+}
 
-    if draw(random, 4) == 0 {
-        let cell = draw(random, 11);
-        let value = draw(random, 256);
-        let r = draw(random, 16);
-        let row = &mut lock.rows[r as usize];
-        match cell {
-            0 => lock.edition = value,
-            1 => lock.n = value,
-            2 => lock.tail = value,
-            3 => row.next = value,
-            4 => row.locked = value,
-            5 => row.guard = value % 2 == 1,
-            6 => row.flag = value % 2 == 1,
-            7 => row.place = value,
-            8 => row.pred = value,
-            9 => row.succ = value,
-            _ => row.nx = value,
+/// The damage to a sound state.
+fn damage(random: &mut Random, lock: &mut Lock) {
+    match draw(random, 4) {
+        0 | 1 => (),
+        2 => {
+            let cell = pick(random, CELLS);
+            let v = draw(random, 256);
+            let r = below(random, MOST);
+            lock.put(cell, r, v);
         }
+        _ => damage_near(random, lock),
     }
+}
 
-    // Here n is the drawn one, whatever was broken.
+/// Damage near the edges of soundness.
+fn damage_near(random: &mut Random, lock: &mut Lock) {
+    let n = lock.n;
+    let edge = draw(random, 8);
+    let cell = match edge {
+        0 => pick(random, STATE_CELLS),
+        1 | 2 => pick(random, PRIVATE_CELLS),
+        3 | 4 => Cell::Place,
+        _ => pick(random, ROW_CELLS),
+    };
+    let in_use = edge <= 5;
+    let r = match draw(random, 3) {
+        0 if in_use => 0,
+        0 => n % MOST,
+        1 if in_use => n - 1,
+        1 => MOST - 1,
+        _ if in_use => below(random, n),
+        _ => below(random, MOST),
+    };
+    if edge == 1 || edge == 2 {
+        take_away(random, lock, cell, r);
+    } else {
+        put_near(random, lock, cell, r);
+    }
+}
+
+/// Puts none where it is needed, or beside that.
+fn take_away(random: &mut Random, lock: &mut Lock, cell: Cell, r: u8) {
+    let k = match cell {
+        Cell::Pred => between(random, FIRST_WITHOUT_PRED, LAST_WITHOUT_PRED),
+        Cell::Succ => between(random, FIRST_WITHOUT_SUCC, LAST_WITHOUT_SUCC),
+        _ => between(random, FIRST_WITHOUT_NX, LAST_WITHOUT_NX),
+    };
+    if edition_has(lock.edition, k) {
+        lock.put(Cell::Place, r, k);
+    }
+    lock.put(cell, r, NONE);
+}
+
+/// Puts a value near those at which a test turns.
+fn put_near(random: &mut Random, lock: &mut Lock, cell: Cell, r: u8) {
+    let n = lock.n;
+    let v = match cell {
+        Cell::Locked => below(random, LOCKED_TRIED),
+        Cell::Edition => below(random, EDITIONS_TRIED),
+        Cell::Guard | Cell::Flag => 1,
+        Cell::Place => below(random, PLACES_TRIED),
+        Cell::Next | Cell::Pred | Cell::Succ | Cell::Nx | Cell::N | Cell::Tail | Cell::FreshN => {
+            pick(random, &[0, 1, MOST, MOST + 1, NONE - 1, NONE, n - 1, n, n + 1])
+        }
+    };
+    lock.put(cell, r, v);
+}
+
+/// Trial t. The draws stand in the order of the page.
+pub fn trial(t: u64) -> Trial {
+    let random = &mut Random { x: (t * 7919 + 29) % 2147483648 };
+    let mut lock = sound_state(random);
+    // The event keeps to this N, whatever the damage puts into the cell.
+    let n = lock.n;
+    damage(random, &mut lock);
     let event = match draw(random, 8) {
         0 => RAISE,
         1 => draw(random, 256),
+        2 => draw(random, 4),
         _ => STEP,
     };
     let processor = match draw(random, 8) {
         0 => draw(random, 256),
-        _ => draw(random, n as u64),
+        1 => n - 1 + draw(random, 3),
+        _ => below(random, n),
     };
     Trial { lock, event, processor }
 }
 
-/// Adds the bytes of an answer: the refusal, or 0, and the state that comes back.
-fn answer(out: &mut Vec<u8>, refusal: u8, lock: &Lock) {
-    out.extend_from_slice(&[refusal, lock.edition, lock.n, lock.tail]);
-    for row in &lock.rows {
-        out.extend_from_slice(&[row.next, row.locked, row.guard as u8, row.flag as u8]);
-        out.extend_from_slice(&[row.place, row.pred, row.succ, row.nx]);
+impl Trial {
+    pub fn good_event(&self) -> bool {
+        self.event == STEP || self.event == RAISE
+    }
+
+    pub fn good_processor(&self) -> bool {
+        self.processor < self.lock.n
+    }
+
+    /// The refusal, or 0 for accepted, and the state that comes back.
+    pub fn answer(&self) -> (u8, Lock) {
+        let result = catch_unwind(|| {
+            let mut lock = self.lock;
+            let refusal = lock.event_handed(self.event, self.processor).err();
+            (refusal.unwrap_or(0), lock)
+        });
+        result.unwrap_or((FAILED, self.lock))
     }
 }
 
-/// What the trials met.
-struct Summary {
-    /// How many answers had each refusal; 0 is accepted.
-    refusals: [u64; 12],
-    raises: u64,
-    steps: u64,
-    /// Accepted steps whose act used pred, or succ, and it was the processor itself.
-    own_pred: u64,
-    own_succ: u64,
-    /// Accepted events after which the state is not sound.
-    unsound: u64,
-    counts: Counts,
-}
-
-impl Summary {
-    fn accepted(&mut self, trial: &Trial, after: &Lock) {
-        let p = trial.processor;
-        self.unsound += !after.sound() as u64;
-        if trial.event == RAISE {
-            self.raises += 1;
-            return;
-        }
-        self.steps += 1;
-        self.counts.step(&trial.lock, after, p as usize);
-        let row = &trial.lock.rows[p as usize];
-        // Arm has a pred, but its act does not use it. Look and await only set succ.
-        self.own_pred += (matches!(row.place, LINK | CLAIM) && row.pred == p) as u64;
-        self.own_succ += (needs_succ(row.place) && row.succ == p) as u64;
-    }
-
-    fn text(&self) -> String {
-        let mut text = String::new();
-        let lines = [
-            ("states handed in", TRIALS),
-            ("refused by 11", self.refusals[REFUSED_STATE as usize]),
-            ("refused by 8", self.refusals[REFUSED_EVENT as usize]),
-            ("refused by 9", self.refusals[REFUSED_PROCESSOR as usize]),
-            ("accepted", self.refusals[0]),
-            ("accepted raises", self.raises),
-            ("accepted steps", self.steps),
-            ("steps that used pred, and it was the processor itself", self.own_pred),
-            ("steps that used succ, and it was the processor itself", self.own_succ),
-            ("accepted, and the state that comes back is not sound", self.unsound),
-        ];
-        for (words, number) in lines.iter() {
-            text += &format!("{:<54}{:>6}\n", words, number);
-        }
-        // A side that no run can take is out of reach of any sound state too.
-        let mut met = 0;
-        let mut all = 0;
-        for edition in PLAIN..=GUARDED {
-            for (i, side) in SIDES.iter().enumerate().filter(|(_, side)| side.editions.contains(&edition)) {
-                let taken = self.counts.taken[edition as usize][i] > 0;
-                let possible = coverage::not_reachable(edition, side).is_none();
-                all += possible as u64;
-                met += (possible && taken) as u64;
-                if possible != taken {
-                    let words = if possible { "never met" } else { "taken, but listed as not reachable" };
-                    text += &format!("{}: {}\n", words, coverage::label(edition, side).trim_end());
-                }
-            }
-        }
-        text += &format!("sides of the step table met: {} of {}\n", met, all);
-        text
-    }
-}
-
-/// The lines of all blocks, and the summary.
-pub fn print() -> (String, String) {
+/// The lines of all blocks.
+pub fn print() -> String {
     let mut text = String::new();
-    let mut summary =
-        Summary { refusals: [0; 12], raises: 0, steps: 0, own_pred: 0, own_succ: 0, unsound: 0, counts: Counts::new() };
     for block in 0..TRIALS / BLOCK {
         let mut accepted = 0;
         let mut bytes = Vec::new();
         for t in block * BLOCK..(block + 1) * BLOCK {
-            let trial = trial(t);
-            let mut lock = trial.lock;
-            let refusal = match lock.event_handed(trial.event, trial.processor) {
-                Ok(_) => {
-                    accepted += 1;
-                    summary.accepted(&trial, &lock);
-                    0
-                }
-                Err(refusal) => {
-                    assert_eq!(lock, trial.lock, "an event refused gives the same state back");
-                    refusal
-                }
-            };
-            summary.refusals[refusal as usize] += 1;
-            answer(&mut bytes, refusal, &lock);
+            let (refusal, lock) = trial(t).answer();
+            accepted += (refusal == 0) as u64;
+            bytes.extend_from_slice(&[refusal, lock.edition, lock.n, lock.tail]);
+            for row in &lock.rows {
+                bytes.extend_from_slice(&row.cells());
+            }
         }
         text += &format!("{} {} {}\n", block, accepted, random::digest(&bytes));
     }
-    (text, summary.text())
+    text
 }

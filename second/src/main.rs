@@ -1,13 +1,20 @@
 //! The second program: an independent lockbench, and what holds the random schedules to account.
 
+mod answers;
 mod bench;
+mod cell;
 mod coverage;
+mod edges;
 mod frame;
 mod handed;
 mod lock;
 mod order;
 mod random;
 mod reachable;
+mod report;
+mod sound;
+mod step;
+mod turns;
 
 use std::io::{Read, Write};
 use std::process::exit;
@@ -15,8 +22,9 @@ use std::process::exit;
 const USAGE: &str = "usage: second              a schedule on standard input, its log on standard output
        second random       the sizes and digests of the 480 random logs
        second schedule I   random schedule I
-       second handed       the digests of 20,000 states handed in at random; a summary on standard error
-       second coverage     how often the 480 schedules take each side of the step table
+       second handed       the digests of what comes back for 60,000 states handed in at random
+       second coverage     how often the 480 schedules take each side of the step table, and the states handed in
+                           each side of the tests of soundness
        second order        what the undamaged schedules show of demand 3
        second order one    the same for one schedule on standard input
        second reachable N  all states of N processors that can be reached from fresh, N from 1 to 3
@@ -32,12 +40,12 @@ fn main() {
             Ok(i) => put(&random::schedule(i)),
             Err(_) => usage(),
         },
-        ["handed"] => {
-            let (text, summary) = handed::print();
-            put(text.as_bytes());
-            eprint!("{}", summary);
+        ["handed"] => put(handed::print().as_bytes()),
+        ["coverage"] => {
+            let (schedules, all_schedules) = coverage::print();
+            let (handed_in, all_handed_in) = answers::print();
+            judge((schedules + "\n" + &handed_in, all_schedules && all_handed_in));
         }
-        ["coverage"] => judge(coverage::print()),
         ["order"] => judge(order::print()),
         ["order", "one"] => judge(order::print_one(&get())),
         ["reachable", n] => match n.parse() {

@@ -93,14 +93,14 @@ fn judge(wait: &Wait, n: u8, found: &mut Found) {
 }
 
 /// Follows one schedule, and adds what it shows to the findings of its edition.
-fn follow(schedule: &[u8], found: &mut [Found; 3]) {
+fn follow(schedule: &[u8], found: &mut [Found; EDITIONS.len()]) {
     let mut run = Run::new();
     bench::follow(schedule, |h| run.event(h, &mut found[h.after.edition as usize]));
 }
 
 /// The findings over the undamaged random schedules, and whether plain and guarded keep the demand.
 pub fn print() -> (String, bool) {
-    let mut found = [Found::default(); 3];
+    let mut found = [Found::default(); EDITIONS.len()];
     for i in (0..random::SCHEDULES).filter(|&i| !random::damaged(i)) {
         follow(&random::schedule(i), &mut found);
     }
@@ -109,15 +109,15 @@ pub fn print() -> (String, bool) {
 
 /// The same for one schedule, so that the check can be shown a run that is out of order.
 pub fn print_one(schedule: &[u8]) -> (String, bool) {
-    let mut found = [Found::default(); 3];
+    let mut found = [Found::default(); EDITIONS.len()];
     follow(schedule, &mut found);
     report(&found)
 }
 
-fn report(found: &[Found; 3]) -> (String, bool) {
+fn report(found: &[Found; EDITIONS.len()]) -> (String, bool) {
     let mut text = String::new();
     let mut good = true;
-    for edition in PLAIN..=GUARDED {
+    for edition in PLAIN..=LAST_EDITION {
         let f = &found[edition as usize];
         if f.schedules == 0 {
             continue;

@@ -2,6 +2,7 @@
 
 use crate::coverage::{self, Counts, SIDES};
 use crate::lock::*;
+use crate::sound::{needs_pred, needs_succ};
 use std::collections::HashSet;
 
 /// The most processors searched for: a state of three fits 57 bits, and four have too many states.
@@ -68,7 +69,7 @@ pub fn print(n: u8) -> (String, bool) {
     let mut text = String::new();
     let mut good = true;
     let mut counts = Counts::new();
-    for edition in PLAIN..=GUARDED {
+    for edition in PLAIN..=LAST_EDITION {
         let fresh = pack(&Lock { edition, n, tail: NONE, rows: [FRESH_ROW; MOST as usize] });
         let mut seen = HashSet::new();
         seen.insert(fresh);

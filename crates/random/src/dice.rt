@@ -22,6 +22,19 @@ impl Dice {
             got: below(top, k),
         }
     }
+
+    // what was drawn, and so much more
+    pub fn plus(self, more: u64) -> Dice {
+        Dice {
+            x: self.x,
+            got: self.got % 65536 + more % 65536,
+        }
+    }
+
+    // no draw: `got` is given
+    pub fn giving(self, got: u64) -> Dice {
+        Dice { x: self.x, got }
+    }
 }
 
 fn below(top: u64, k: u64) -> u64 {

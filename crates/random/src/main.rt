@@ -1,9 +1,11 @@
 // Random and damaged schedules through the bench: a line for each with its log's length and digest, and a few logs whole. Then
 // states handed in at random, each with one event. Both are those of docs/RANDOM.md; what is printed is held to what the second
 // program prints of the same page.
+mod damage;
 mod dice;
 mod handed;
 mod plan;
+mod state;
 mod text;
 
 use libc::STDOUT_FILENO;
@@ -26,7 +28,7 @@ fn schedules(schedule: &mut [u8], log: &mut [u8]) {
 
 fn states() {
     let mut block: u64 = 0;
-    while block < 100 {
+    while block < handed::BLOCKS {
         show_block(block, handed::trials(block));
         block += 1;
     }

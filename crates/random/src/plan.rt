@@ -40,35 +40,23 @@ pub fn planned(i: u64) -> Plan {
 fn processors(d: Dice) -> Dice {
     let coin = d.roll(2);
     if coin.got == 0 {
-        let many = coin.roll(16);
-        return plus(many, 1);
+        return coin.roll(16).plus(1);
     }
-    let some = coin.roll(3);
-    plus(some, 2)
+    coin.roll(3).plus(2)
 }
 
 // the number of event lines
 fn lines(d: Dice, i: u64) -> Dice {
     if i % 40 == 38 {
-        return Dice { x: d.x, got: 6000 };
+        return d.giving(6000);
     }
-    let some = d.roll(480);
-    plus(some, 20)
+    d.roll(480).plus(20)
 }
 
 // the kind of damage, 0 for none
 fn harmed(d: Dice, i: u64) -> Dice {
     if i % 4 == 3 {
-        let kind = d.roll(10);
-        return plus(kind, 1);
+        return d.roll(10).plus(1);
     }
-    Dice { x: d.x, got: 0 }
-}
-
-// what was drawn, and so much more
-pub fn plus(d: Dice, more: u64) -> Dice {
-    Dice {
-        x: d.x,
-        got: d.got % 65536 + more % 65536,
-    }
+    d.giving(0)
 }

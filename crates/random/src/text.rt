@@ -1,6 +1,5 @@
 // The bytes of a schedule, line by line, and the damage that is done to them at last.
 use crate::dice::Dice;
-use crate::plan;
 use crate::plan::Plan;
 
 // Writes the schedule into `text` and answers its length.
@@ -51,8 +50,7 @@ fn outside(d: Dice) -> Dice {
     if coin.got == 0 {
         return coin;
     }
-    let far = coin.roll(239);
-    plan::plus(far, 17)
+    coin.roll(239).plus(17)
 }
 
 // where the text ends, the dice and the processor after a line
@@ -98,10 +96,7 @@ fn turn(plan: Plan, made: Made) -> Dice {
     if d.got == 0 {
         return d.roll(plan.n);
     }
-    Dice {
-        x: d.x,
-        got: made.p,
-    }
+    d.giving(made.p)
 }
 
 // An event line with the damage that its values take.
@@ -148,8 +143,7 @@ fn unknown(d: Dice) -> Dice {
     if coin.got == 0 {
         return coin;
     }
-    let far = coin.roll(253);
-    plan::plus(far, 3)
+    coin.roll(253).plus(3)
 }
 
 // The damage to the whole text; answers its length.

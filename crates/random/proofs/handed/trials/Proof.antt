@@ -1,14 +1,14 @@
--- `random::handed::trials` is safe and ends. The loop's invariant: `k` is at most 200.
+-- `random::handed::trials` is safe and ends. The loop's invariant: `k` is at most 600.
 use borrow.Author.Needs.{needs}
 use Prim.Native.Nat.{_≤_, _-_}
 use Rattle.random.proofs.handed.trials.Statement.{statement}
 use Rattle.random.proofs.handed.trials.Tie as tie
 
 abbrev Inv-loop : tie.InvT-loop
-Inv-loop number b₀ k₀ b k = k ≤ 200
+Inv-loop number b₀ k₀ b k = k ≤ 600
 
 abbrev μ-loop : tie.MeasureT-loop
-μ-loop number b₀ k₀ b k = 200 - k
+μ-loop number b₀ k₀ b k = 600 - k
 
 loop-holds : tie.Need-loop-holds Inv-loop μ-loop
 loop-holds c = search needs

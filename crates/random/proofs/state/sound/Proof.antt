@@ -1,14 +1,14 @@
--- `random::handed::rows` is safe and ends. The loop's invariant: `i` is at most 16.
+-- `random::state::sound` is safe and ends. The loop's invariant: `i` is at most `n`.
 use borrow.Author.Needs.{needs}
 use Prim.Native.Nat.{_≤_, _-_}
-use Rattle.random.proofs.handed.rows.Statement.{statement}
-use Rattle.random.proofs.handed.rows.Tie as tie
+use Rattle.random.proofs.state.sound.Statement.{statement}
+use Rattle.random.proofs.state.sound.Tie as tie
 
 abbrev Inv-loop : tie.InvT-loop
-Inv-loop edition n made₀ i₀ made i = i ≤ 16
+Inv-loop edition n made₀ i₀ made i = i ≤ n
 
 abbrev μ-loop : tie.MeasureT-loop
-μ-loop edition n made₀ i₀ made i = 16 - i
+μ-loop edition n made₀ i₀ made i = n - i
 
 reference-requires : tie.Need-reference-requires Inv-loop μ-loop
 reference-requires c κs = search needs
@@ -37,5 +37,5 @@ loop-again c = search needs
 returns : tie.Need-returns Inv-loop μ-loop
 returns c = search needs
 
-pub rows-spec : {M : Type 1} → statement M
-rows-spec = tie.close (tie.spec Inv-loop μ-loop reference-requires fresh-requires cast-state loop-holds with-row-requires add-i loop-less loop-again returns)
+pub sound-spec : {M : Type 1} → statement M
+sound-spec = tie.close (tie.spec Inv-loop μ-loop reference-requires fresh-requires cast-state loop-holds with-row-requires add-i loop-less loop-again returns)

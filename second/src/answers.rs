@@ -1,0 +1,152 @@
+//! Answers: what comes back for the states handed in. The refusals in their order, the sides of the step table, and
+//! the tables of turns.rs.
+
+use crate::cell::Cell;
+use crate::coverage::{self, Counts, SIDES};
+use crate::edges::Edges;
+use crate::handed::{self, Trial, TRIALS};
+use crate::lock::*;
+use crate::report::Report;
+use crate::turns::{self, LEAST};
+
+/// What the trials met.
+struct Answers {
+    /// Trials by whether the state is not sound, the event is wrong, and the processor is.
+    given: [[[u64; 2]; 2]; 2],
+    raises: u64,
+    steps: u64,
+    /// Accepted steps whose act used pred, or succ, and it was the processor itself.
+    own_pred: u64,
+    own_succ: u64,
+    /// Answers with another refusal than document 01 wants.
+    other: u64,
+    /// Refused events that give another state back.
+    changed: u64,
+    /// Accepted events after which the state is not sound.
+    unsound: u64,
+    counts: Counts,
+}
+
+impl Answers {
+    fn new() -> Answers {
+        let given = [[[0; 2]; 2]; 2];
+        let counts = Counts::new();
+        Answers { given, raises: 0, steps: 0, own_pred: 0, own_succ: 0, other: 0, changed: 0, unsound: 0, counts }
+    }
+
+    fn count(&mut self, trial: &Trial, wanted: u8) {
+        let (refusal, after) = trial.answer();
+        let unsound = wanted == REFUSED_STATE;
+        self.given[unsound as usize][!trial.good_event() as usize][!trial.good_processor() as usize] += 1;
+        if refusal != wanted {
+            self.other += 1;
+        } else if refusal == 0 {
+            self.accepted(trial, &after);
+        } else {
+            self.changed += (after != trial.lock) as u64;
+        }
+    }
+
+    fn accepted(&mut self, trial: &Trial, after: &Lock) {
+        let p = trial.processor;
+        self.unsound += !after.sound() as u64;
+        if trial.event == RAISE {
+            self.raises += 1;
+            return;
+        }
+        self.steps += 1;
+        self.counts.step(&trial.lock, after, p as usize);
+        let row = &trial.lock.rows[p as usize];
+        // Arm has a pred, but its act does not use it. Look and await only set succ.
+        self.own_pred += (matches!(row.place, LINK | CLAIM) && row.pred == p) as u64;
+        self.own_succ += (handed::needs(row.place, Cell::Succ) && row.succ == p) as u64;
+    }
+
+    /// Which of the three refusals comes first.
+    fn print_order(&self, report: &mut Report) {
+        const SOUND: [&str; 2] = ["sound", "not sound"];
+        const GOOD: [&str; 2] = ["good", "wrong"];
+        report.line("state      event  processor  answer   times");
+        for (s, state) in SOUND.iter().enumerate() {
+            for (e, event) in GOOD.iter().enumerate() {
+                for (p, processor) in GOOD.iter().enumerate() {
+                    let count = self.given[s][e][p];
+                    let answer = match (s, e, p) {
+                        (1, _, _) => REFUSED_STATE,
+                        (_, 1, _) => REFUSED_EVENT,
+                        (_, _, 1) => REFUSED_PROCESSOR,
+                        _ => 0,
+                    };
+                    let words = format!("{:<11}{:<7}{:<11}{:>6}", state, event, processor, answer);
+                    report.line(&format!("{}{:>8}", words, count));
+                    report.demand(count, LEAST, &words);
+                }
+            }
+        }
+    }
+
+    fn print_numbers(&self, several: u64, report: &mut Report) {
+        let may = [
+            ("states handed in", TRIALS),
+            ("states that fail several tests of soundness", several),
+            ("accepted raises", self.raises),
+            ("accepted steps", self.steps),
+            ("steps that used pred, and it was the processor itself", self.own_pred),
+            ("steps that used succ, and it was the processor itself", self.own_succ),
+        ];
+        for (words, number) in may {
+            report.line(&format!("{:<56}{:>6}", words, number));
+            report.demand(number, LEAST, words);
+        }
+        let must_not = [
+            ("answers with another refusal than document 01 wants", self.other),
+            ("refused, and another state comes back", self.changed),
+            ("accepted, and the state that comes back is not sound", self.unsound),
+        ];
+        for (words, number) in must_not {
+            report.line(&format!("{:<56}{:>6}", words, number));
+            report.forbid(number, words);
+        }
+    }
+
+    /// A side that no run can take is out of reach of any sound state too.
+    fn print_sides(&self, report: &mut Report) {
+        let mut met = 0;
+        let mut all = 0;
+        for edition in PLAIN..=LAST_EDITION {
+            for (i, side) in SIDES.iter().enumerate().filter(|(_, side)| side.editions.contains(&edition)) {
+                let taken = self.counts.taken[edition as usize][i];
+                let label = coverage::label(edition, side);
+                if coverage::not_reachable(edition, side).is_some() {
+                    report.forbid(taken, &label);
+                } else {
+                    report.demand(taken, 1, &label);
+                    all += 1;
+                    met += (taken > 0) as u64;
+                }
+            }
+        }
+        report.line(&format!("sides of the step table met: {} of {}", met, all));
+    }
+}
+
+/// The tables, and whether all that should be met is.
+pub fn print() -> (String, bool) {
+    let mut answers = Answers::new();
+    let mut edges = Edges::default();
+    for t in 0..TRIALS {
+        let trial = handed::trial(t);
+        let wanted = edges.count(&trial);
+        answers.count(&trial, wanted);
+    }
+    let mut report = Report::default();
+    answers.print_numbers(edges.several, &mut report);
+    answers.print_sides(&mut report);
+    report.line("");
+    answers.print_order(&mut report);
+    turns::print(&edges, &mut report);
+    report.end(&format!(
+        "every test of a state handed in and of its event is met from both sides, at least {} times",
+        LEAST
+    ))
+}
