@@ -23,7 +23,7 @@ use Rattle.bench.specs.Log.{refusedAt, counted, rowShown, shown, Turn, s
 use Rattle.bench.specs.Steps.{filled, laid, laterLog, linesRoom}
 use Rattle.bench.proofs.Sizes.{count-size, refusal-size, row-size, shown-size, GoesOn, Stops, turn-size}
 use Rattle.bench.proofs.Fuel.{log-ends, log-turns}
-use Rattle.bench.proofs.Told.{shows}
+use Rattle.bench.proofs.Frames.{shows}
 use Rattle.bench.proofs.Parts.{put, filled-by}
 
 -- Where the loop stands: `out` was `buffer`, `at` bytes of it are written, and the log of `text` from the state

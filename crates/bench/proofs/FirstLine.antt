@@ -24,7 +24,7 @@ use Rattle.frame.proofs.Proved.{lengths-are-known}
 use Rattle.bench.specs.Log.{refusedAt, logFrom, begun}
 use Rattle.bench.specs.Steps.{filled, laid, laterLog, openedLog, linesRoom}
 use Rattle.bench.proofs.Sizes.{refusal-size}
-use Rattle.bench.proofs.Told.{open-refuses}
+use Rattle.bench.proofs.Frames.{open-refuses}
 use Rattle.bench.proofs.Fuel.{fuel-same}
 use Rattle.bench.proofs.Parts.{part-is, put-whole}
 

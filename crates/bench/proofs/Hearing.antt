@@ -26,7 +26,7 @@ use Rattle.frame.specs.Reading.{reads, restOf}
 use Rattle.bench.specs.Log.{longest, refusedAt, counted, shown, stopped, answered, followed, turnOf, logFrom, begun, opened, logOf}
 use Rattle.bench.specs.Bridge.{callOf, rowsOf, areAccepted, editionOf, processorsOf, firstState, firstRefusal, lineRefusal, heardFrom, heardOf, unheardOf, refusalOf, ending, LogIsARun}
 use Rattle.bench.proofs.Sizes.{cases, shown-size}
-use Rattle.bench.proofs.Told.{shows}
+use Rattle.bench.proofs.Frames.{shows}
 
 module _ (s : LockState) (line b : ℕ) (text : List ℕ) where
   abbrev here : List ℕ

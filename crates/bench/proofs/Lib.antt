@@ -2,7 +2,7 @@
 pub mod Sizes
 pub mod Fuel
 pub mod Room
-pub mod Told
+pub mod Frames
 pub mod Sound
 pub mod Parts
 pub mod Carried

@@ -6,6 +6,7 @@
 pub mod laws;
 mod lines;
 mod opening;
+mod told;
 mod turns;
 
 pub use opening::bench;

@@ -3,6 +3,7 @@
 // Each function is one definition of bench or frame, told as one number: how many bytes are written, and 0 where the
 // lent buffer has not the room. They ask nothing of their caller but that a slice is what it says.
 pub mod laws;
+mod told;
 
 ghost use mathlib.Core.Path.{_≡_};
 ghost use mathlib.Core.List.{[], _∷_};

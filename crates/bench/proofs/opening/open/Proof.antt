@@ -8,7 +8,7 @@ use borrow.Author.Needs.{needs}
 use Rattle.frame.specs.Reading.{told}
 use Rattle.frame.proofs.Proved.{accepted-is-written}
 use Rattle.bench.specs.Steps.{filled}
-use Rattle.bench.proofs.Told.{open-begins}
+use Rattle.bench.proofs.Frames.{open-begins}
 use Rattle.bench.proofs.FirstLine.{refusal-room, open-refused}
 use Rattle.bench.proofs.opening.open.Statement.{statement}
 use Rattle.bench.proofs.opening.open.Tie as tie

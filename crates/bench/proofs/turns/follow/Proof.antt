@@ -12,7 +12,7 @@ use Rattle.lock.specs.Event.{happens}
 use Rattle.frame.specs.Reading.{told}
 use Rattle.bench.specs.Log.{refusedAt, counted, Turn, stopped, turnOf}
 use Rattle.bench.specs.Steps.{laid}
-use Rattle.bench.proofs.Told.{shows, turn-shows, turn-stops, turn-refuses}
+use Rattle.bench.proofs.Frames.{shows, turn-shows, turn-stops, turn-refuses}
 use Rattle.bench.proofs.Sound.{carried-is, happens-whole}
 use Rattle.bench.proofs.Carried.{Carried, begins, long-still, stop-room, stops, show-room, goes-on, count-room, count-ends}
 use Rattle.bench.proofs.turns.follow.Statement.{statement}

@@ -1,0 +1,31 @@
+// Every public contract of this crate, tied to its definition: each function here promises the definition and calls the public
+// function, so that a public contract that says less is refused. Nobody calls these. (The function of `laws` is empty: its proof is
+// of its contract alone.)
+ghost use mathlib.Core.Path.{_≡_};
+ghost use mathlib.Core.List.{[], _∷_};
+ghost use lib.ListN.{length};
+ghost use lib.Dec.{eqb, ltb};
+ghost use Rattle.frame.specs.Writing.{lineOf, leaves};
+ghost use Rattle.bench.specs.Lent.{roomFor, logged, left};
+ghost use Rattle.board.specs.Written.{written};
+
+fn told_room(bytes: usize) -> usize
+    ensures { λ r. ⌜ r ≡ roomFor bytes ⌝ }
+{
+    crate::pontivesca_room(bytes)
+}
+
+fn told_log(schedule: &[u8], out: &mut [u8]) -> usize
+    ensures { λ r. ⌜ r ≡ (logged (now (schedule .entry)) (now (out .entry))) .length ⌝ }
+    ensures { λ r. ⌜ eqb r 0 ≡ ltb (length (now (out .entry))) (roomFor (length (now (schedule .entry)))) ⌝ }
+    ensures { λ _. ⌜ now (out .exit) ≡ left (now (schedule .entry)) (now (out .entry)) ⌝ }
+{
+    crate::pontivesca_log(schedule, out)
+}
+
+fn told_line(kind: u8, first: u8, second: u8, out: &mut [u8]) -> usize
+    ensures { λ r. ⌜ r ≡ written (lineOf (kind ∷ first ∷ second ∷ [])) (now (out .entry)) ⌝ }
+    ensures { λ _. ⌜ now (out .exit) ≡ leaves (lineOf (kind ∷ first ∷ second ∷ [])) (now (out .entry)) ⌝ }
+{
+    crate::pontivesca_line(kind, first, second, out)
+}
