@@ -1,0 +1,78 @@
+# verdict.awk: who waited how long, and who was passed over by whom, told from a replayed log. It ends every log in words;
+# verdict_main.awk prints it alone. In order: the table of joins, the sentences, the summary in a few words.
+
+function verdict(    j) {
+    print "Verdict"
+    print ""
+    if (joins > 0) {
+        join_table()
+        print ""
+    }
+    for (j = 1; j <= joins; j++)
+        if (join_passed[j] > 0) print sentence(j)
+    if (overtakings == 0) print "nobody was passed over"
+    else print "\n" claim()
+}
+
+# Ends every view in words.
+function closing() {
+    print "\nAll of this is told from the log, by replaying it. None of it is proved."
+}
+
+function join_table(    j) {
+    next_row()
+    cell("joined"); cell("processor"); cell("led to"); cell("waited through"); cell("interrupt"); cell("passed over by")
+    for (j = 1; j <= joins; j++) {
+        next_row()
+        cell(join_line[j])
+        cell(join_who[j])
+        cell(led_to(j))
+        cell(join_waited[j] (join_waited[j] == 1 ? " entry" : " entries"))
+        cell(join_interrupt[j] ? "at line " join_interrupt[j] : "none")
+        cell(passers(j, ", ", ""))
+    }
+    print_table("rrllll")
+}
+
+function led_to(j) {
+    if (join_end[j] == "entered") return "entry at line " join_end_line[j]
+    if (join_end[j] == "again") return "a new join at line " join_end_line[j]
+    return "no entry in this log"
+}
+
+# Everybody who passed this join over.
+function passers(j, between, by,    i, list) {
+    for (i = 1; i <= join_passed[j]; i++)
+        list = list (i == 1 ? "" : between) by passer_who[j, i] " (" lines_of(passer_joined[j, i], passer_entered[j, i]) ")"
+    return list == "" ? "-" : list
+}
+
+function lines_of(joined, entered) {
+    return joined == entered ? "joined and entered " joined : "joined " joined ", entered " entered
+}
+
+function sentence(j,    how) {
+    if (join_end[j] == "entered") how = " and entered at line " join_end_line[j]
+    else if (join_end[j] == "again") how = " and without an entry again at line " join_end_line[j]
+    else how = " and not entered by the end of the log"
+    return "processor " join_who[j] ", joined at line " join_line[j] how ", was passed over " passers(j, " and ", "by ") \
+        "; it had taken " (join_interrupt[j] ? "an interrupt at line " join_interrupt[j] : "no interrupt")
+}
+
+# What plain and guarded claim, where somebody was passed over all the same.
+function claim() {
+    if (!ordered[edition]) return "The drawn edition carries no claim of order."
+    return "Demand 3 claims nothing of a waiter that has taken an interrupt. NobodyOvertakes covers the last join before an\n" \
+        "entry, with any interrupts; these joins led to no entry."
+}
+
+# The verdict in a few words.
+function summary(    j, many, who) {
+    if (overtakings == 0) return "nobody was passed over"
+    for (j = 1; j <= joins; j++)
+        if (join_passed[j] > 0) {
+            many++
+            who = "processor " join_who[j] " was passed over " passers(j, " and ", "by ")
+        }
+    return many == 1 ? who : many " joins were passed over, by " overtakings " entries"
+}

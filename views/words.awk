@@ -1,0 +1,54 @@
+# words.awk: a log in words, one line for each of its lines, and the verdict at the end. `from` and `to` name a part.
+
+BEGIN {
+    read_log()
+    if (N > 0) printf "%4d  edition %d (%s), N %d: %s\n", 1, edition, edition_name[edition], N, all_processors()
+    if (events > 0) event_table()
+    printf "%4s  %s\n", refused_at == "" ? "end" : refused_at, ending
+    notes()
+    if (N > 0) {
+        print ""
+        verdict()
+    }
+    closing()
+}
+
+function all_processors() {
+    return N == 1 ? "processor 0" : "processors 0 to " N - 1
+}
+
+function event_table(    k) {
+    next_row()
+    cell("line"); cell("processor"); cell("act"); cell("place"); cell("L"); cell("locked"); cell("next"); cell("flag")
+    cell("guard"); cell("queue"); cell("what happens")
+    for (k = 2; k <= last; k++) {
+        next_row()
+        cell(sprintf("%4d", k))
+        cell(at_who[k])
+        cell(at_act[k])
+        cell(where(k))
+        cell(none_or(at_tail[k]))
+        cell(locked_name[at_locked[k]])
+        cell(none_or(at_next[k]))
+        cell(at_flag[k] ? "set" : "-")
+        cell(at_guard[k] ? "set" : "-")
+        cell(at_queue[k])
+        cell(at_note[k])
+    }
+    print_table("rrlllllllll")
+}
+
+function where(k) {
+    return (at_from[k] != at_to[k] ? "to " : at_act[k] == "raise" ? "at " : "stays at ") at_to[k] " " place_name[at_to[k]]
+}
+
+function none_or(x) {
+    return x == NONE ? "none" : x
+}
+
+function notes(    k, alike) {
+    if (events > 0) print "\nqueue: *inside or handing on | who waits, in the order of the latest joins; [in service]"
+    for (k = 2; k <= last; k++)
+        if (at_act[k] ~ / or raise$/) alike = 1
+    if (alike) print "\"or raise\": a step that stays and a raise of a raised processor give the same line."
+}
