@@ -7,7 +7,7 @@
 # What is left: edition, N, events; last, the line of the last event; ending, the last line in words; and of each event, by its
 # line k, at_who, at_from and at_to (places), at_act, at_tail, at_locked, at_next, at_flag, at_guard, at_note, at_queue, and
 # at_pass, at_giver, at_taker where the lock goes from one to another. run.awk has joins, entries and the queue.
-# In order: the reading, a line of each kind, an event.
+# take_part() gives first_shown and last_shown, where a view shows a part. In order: the reading, a line of each kind, an event.
 
 BEGIN {
     what = "log"
@@ -33,6 +33,16 @@ function read_log() {
     if (number == 1) fail("the log is empty")
     if (ending == "") fail("the log ends without an 04 or 05 line")
     judge_order()
+}
+
+# The lines that `from` and `to` ask for: those of events from first_shown to last_shown.
+function take_part() {
+    first_shown = from == "" || from < 2 ? 2 : from + 0
+    last_shown = to == "" || to > last ? last : to + 0
+    if (from to == "" || first_shown <= last_shown) return
+    print "lockbench: " (from == "" ? "up to line " to : to == "" ? "from line " from " on" : "from line " from " to " to) \
+        " there is no event in this log, " (events == 0 ? "which has none" : "whose events are at lines 2 to " last) > "/dev/stderr"
+    exit 1
 }
 
 # One whole line: its form, its check, and whether it may stand here.

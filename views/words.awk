@@ -1,7 +1,9 @@
-# words.awk: a log in words, one line for each of its lines, and the verdict at the end. `from` and `to` name a part.
+# words.awk: a log in words, one line for each of its lines, and the verdict at the end. Where a part is asked for, the
+# other lines of events are left out; the verdict is of the whole log.
 
 BEGIN {
     read_log()
+    take_part()
     if (N > 0) printf "%4d  edition %d (%s), N %d: %s\n", 1, edition, edition_name[edition], N, all_processors()
     if (events > 0) event_table()
     printf "%4s  %s\n", refused_at == "" ? "end" : refused_at, ending
@@ -21,7 +23,7 @@ function event_table(    k) {
     next_row()
     cell("line"); cell("processor"); cell("act"); cell("place"); cell("L"); cell("locked"); cell("next"); cell("flag")
     cell("guard"); cell("queue"); cell("what happens")
-    for (k = 2; k <= last; k++) {
+    for (k = first_shown; k <= last_shown; k++) {
         next_row()
         cell(sprintf("%4d", k))
         cell(at_who[k])
@@ -48,7 +50,7 @@ function none_or(x) {
 
 function notes(    k, alike) {
     if (events > 0) print "\nqueue: *inside or handing on | who waits, in the order of the latest joins; [in service]"
-    for (k = 2; k <= last; k++)
+    for (k = first_shown; k <= last_shown; k++)
         if (at_act[k] ~ / or raise$/) alike = 1
     if (alike) print "\"or raise\": a step that stays and a raise of a raised processor give the same line."
 }
