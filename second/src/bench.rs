@@ -67,7 +67,7 @@ fn run<W: FnMut(&Happening)>(schedule: &[u8], out: &mut Vec<u8>, mut watch: W) -
 }
 
 /// The 03 line: the processor's own row as it is after the event.
-fn write_row(out: &mut Vec<u8>, lock: &Lock, processor: u8, entry: bool) {
+pub fn write_row(out: &mut Vec<u8>, lock: &Lock, processor: u8, entry: bool) {
     let row: &Row = &lock.rows[processor as usize];
     let marks = row.flag as u8 + 2 * row.guard as u8 + 4 * entry as u8;
     frame::write(out, &[3, processor, row.place, lock.tail, row.locked, row.next, marks]);

@@ -15,6 +15,7 @@ mod report;
 mod sound;
 mod step;
 mod turns;
+mod verdict;
 
 use std::io::{Read, Write};
 use std::process::exit;
@@ -25,7 +26,9 @@ const USAGE: &str = "usage: second              a schedule on standard input, it
        second handed       the digests of what comes back for 60,000 states handed in at random
        second coverage     how often the 480 schedules take each side of the step table, and the states handed in
                            each side of the tests of soundness
-       second order        what the undamaged schedules show of demand 3
+       second verdict      who waits and who is passed over in one schedule on standard input
+       second verdicts     the same for the 480 random schedules
+       second order        what the 480 random schedules show of demand 3
        second order one    the same for one schedule on standard input
        second reachable N  all states of N processors that can be reached from fresh, N from 1 to 3
 ";
@@ -46,6 +49,8 @@ fn main() {
             let (handed_in, all_handed_in) = answers::print();
             judge((schedules + "\n" + &handed_in, all_schedules && all_handed_in));
         }
+        ["verdict"] => try_put(verdict::print(&get())),
+        ["verdicts"] => try_put(verdict::print_all()),
         ["order"] => judge(order::print()),
         ["order", "one"] => judge(order::print_one(&get())),
         ["reachable", n] => match n.parse() {
@@ -61,6 +66,17 @@ fn judge((text, good): (String, bool)) {
     put(text.as_bytes());
     if !good {
         exit(1);
+    }
+}
+
+/// Writes a text, or ends with a message and status 1.
+fn try_put(text: Result<String, String>) {
+    match text {
+        Ok(text) => put(text.as_bytes()),
+        Err(message) => {
+            eprintln!("{}", message);
+            exit(1);
+        }
     }
 }
 

@@ -1,107 +1,110 @@
-//! Order: what runs show of demand 3, and of two never being inside together.
+//! Order: what runs show of demand 3, and of two never being inside together. It is counted from the verdicts.
 
-use crate::bench::{self, Happening};
 use crate::lock::*;
 use crate::random;
+use crate::verdict::{self, End, Stretch, Verdict};
 
 /// What was found in the runs of one edition.
 #[derive(Clone, Copy, Default)]
 struct Found {
     schedules: u64,
     joins: u64,
+    entered: u64,
+    again: u64,
+    open: u64,
+    interrupted: u64,
     entries: u64,
     interrupts: u64,
-    judged: u64,
     overtakings: u64,
+    impossible: u64,
     doubles: u64,
     longest: u64,
     broken: u64,
     inside: u64,
 }
 
-/// One processor's wait, from its latest join on. A join that is also an entry is a wait through no entries.
-#[derive(Clone, Copy)]
-struct Wait {
-    joined: u64,
-    /// Entries of each processor since the join.
-    entered: [u64; MOST as usize],
-    /// Entries since the join of processors whose latest join is later.
-    overtakings: u64,
-}
-
-/// One run, event by event.
-struct Run {
-    time: u64,
-    /// The time of each processor's latest join; 0 before the first.
-    joined: [u64; MOST as usize],
-    /// The waits that are open and without an interrupt so far.
-    waits: [Option<Wait>; MOST as usize],
-}
-
-impl Run {
-    fn new() -> Run {
-        Run { time: 0, joined: [0; MOST as usize], waits: [None; MOST as usize] }
+impl Found {
+    fn add(&mut self, verdict: &Verdict) {
+        self.schedules += 1;
+        self.entries += verdict.entries;
+        self.interrupts += verdict.interrupts;
+        self.inside = self.inside.max(verdict.inside);
+        for stretch in &verdict.stretches {
+            self.stretch(stretch, verdict.n);
+        }
     }
 
-    fn event(&mut self, h: &Happening, found: &mut Found) {
-        // A schedule counts once, at its first event.
-        found.schedules += (self.time == 0) as u64;
-        self.time += 1;
-        if h.event != STEP {
-            return;
+    fn stretch(&mut self, stretch: &Stretch, n: u8) {
+        self.joins += 1;
+        match stretch.end {
+            End::Entered(_) => self.entered += 1,
+            End::Again(_) => self.again += 1,
+            End::Open => self.open += 1,
         }
-        let p = h.processor as usize;
-        let from = h.before.rows[p].place;
-        let to = h.after.rows[p].place;
+        self.overtakings += stretch.overtakings().count() as u64;
+        self.impossible += impossible(stretch);
+        self.doubles += doubles(stretch);
+        if stretch.interrupt == 0 {
+            let length = stretch.entries.len() as u64;
+            self.longest = self.longest.max(length);
+            self.broken += (length > n as u64 - 1) as u64;
+        } else {
+            self.interrupted += 1;
+        }
+    }
 
-        // The join comes before the entry: if the swap finds no one, one step is both.
-        if from == SWAP {
-            found.joins += 1;
-            self.joined[p] = self.time;
-            self.waits[p] = Some(Wait { joined: self.time, entered: [0; MOST as usize], overtakings: 0 });
-        }
-        if from == POLL && to == SERVICE {
-            found.interrupts += 1;
-            // The demand speaks only of waits without an interrupt.
-            self.waits[p] = None;
-        }
-        if h.entry {
-            found.entries += 1;
-            if let Some(wait) = self.waits[p].take() {
-                judge(&wait, h.after.n, found);
-            }
-            for wait in self.waits.iter_mut().flatten() {
-                wait.entered[p] += 1;
-                if self.joined[p] > wait.joined {
-                    wait.overtakings += 1;
-                }
-            }
-        }
-        let inside = h.after.rows.iter().filter(|row| row.place == INSIDE).count() as u64;
-        found.inside = found.inside.max(inside);
+    fn in_order(&self) -> bool {
+        self.impossible == 0 && self.doubles == 0 && self.broken == 0
+    }
+
+    fn lines(&self) -> [(&'static str, u64); 14] {
+        [
+            ("schedules with a run", self.schedules),
+            ("joins", self.joins),
+            ("of these, entered", self.entered),
+            ("of these, joined again", self.again),
+            ("of these, open", self.open),
+            ("joins with an interrupt", self.interrupted),
+            ("entries", self.entries),
+            ("interrupts", self.interrupts),
+            ("overtakings", self.overtakings),
+            ("overtakings claimed impossible", self.impossible),
+            ("double entries", self.doubles),
+            ("longest wait in entries", self.longest),
+            ("waits over N - 1 entries", self.broken),
+            ("most inside at once", self.inside),
+        ]
     }
 }
 
-/// Judges a wait that has ended with its entry and had no interrupt.
-fn judge(wait: &Wait, n: u8, found: &mut Found) {
-    let length: u64 = wait.entered.iter().sum();
-    found.judged += 1;
-    found.overtakings += wait.overtakings;
-    found.doubles += wait.entered.iter().filter(|&&entered| entered > 1).count() as u64;
-    found.longest = found.longest.max(length);
-    found.broken += (length > n as u64 - 1) as u64;
+/// The overtakings of a waiter that had taken no interrupt until then, or that in the end enters without joining again:
+/// an interrupt may cost a waiter its place, but then it has to join again.
+fn impossible(stretch: &Stretch) -> u64 {
+    let kept_place = matches!(stretch.end, End::Entered(_));
+    stretch.overtakings().filter(|entry| kept_place || stretch.undisturbed(entry.line)).count() as u64
 }
 
-/// Follows one schedule, and adds what it shows to the findings of its edition.
+/// How many other processors enter twice before the waiter takes an interrupt.
+fn doubles(stretch: &Stretch) -> u64 {
+    let mut entered = [0u64; MOST as usize];
+    for entry in stretch.entries.iter().filter(|entry| stretch.undisturbed(entry.line)) {
+        entered[entry.processor as usize] += 1;
+    }
+    entered.iter().filter(|&&times| times > 1).count() as u64
+}
+
+/// Adds what a schedule shows to the findings of its edition, if there is a run.
 fn follow(schedule: &[u8], found: &mut [Found; EDITIONS.len()]) {
-    let mut run = Run::new();
-    bench::follow(schedule, |h| run.event(h, &mut found[h.after.edition as usize]));
+    if let Some(verdict) = verdict::of(schedule) {
+        found[verdict.edition as usize].add(&verdict);
+    }
 }
 
-/// The findings over the undamaged random schedules, and whether plain and guarded keep the demand.
+/// The findings over the random schedules, and whether they keep what is claimed. A damaged one has the events before
+/// its refusal.
 pub fn print() -> (String, bool) {
     let mut found = [Found::default(); EDITIONS.len()];
-    for i in (0..random::SCHEDULES).filter(|&i| !random::damaged(i)) {
+    for i in 0..random::SCHEDULES {
         follow(&random::schedule(i), &mut found);
     }
     report(&found)
@@ -117,33 +120,20 @@ pub fn print_one(schedule: &[u8]) -> (String, bool) {
 fn report(found: &[Found; EDITIONS.len()]) -> (String, bool) {
     let mut text = String::new();
     let mut good = true;
-    for edition in PLAIN..=LAST_EDITION {
-        let f = &found[edition as usize];
-        if f.schedules == 0 {
-            continue;
-        }
+    for (edition, f) in (PLAIN..=LAST_EDITION).zip(found).filter(|(_, f)| f.schedules > 0) {
         let name = EDITIONS[edition as usize];
-        let lines = [
-            ("schedules", f.schedules),
-            ("joins", f.joins),
-            ("entries", f.entries),
-            ("interrupts", f.interrupts),
-            ("waits judged", f.judged),
-            ("overtakings found", f.overtakings),
-            ("double entries found", f.doubles),
-            ("longest wait in entries", f.longest),
-            ("waits over N - 1 entries", f.broken),
-            ("most inside at once", f.inside),
-        ];
-        for (words, number) in lines.iter() {
-            text += &format!("{:<8}{:<25}{:>8}\n", name, words, number);
+        for (words, number) in f.lines() {
+            text += &format!("{:<8}{:<31}{:>8}\n", name, words, number);
         }
-        let kept = f.overtakings == 0 && f.doubles == 0 && f.broken == 0 && f.inside <= 1;
-        // The drawn edition carries no claim of order, so it cannot fail here.
+        // The drawn edition carries no claim of order, but in no edition two are inside together.
         let claimed = edition != DRAWN;
-        good = good && (kept || !claimed);
-        let verdict = if kept { "nothing is out of order" } else { "something is out of order" };
-        text += &format!("{:<8}{}{}\n", name, verdict, if claimed { "" } else { "; no claim is made" });
+        let words = match (f.inside <= 1, f.in_order()) {
+            (false, _) => "more than one was inside at once",
+            (true, false) => "something is out of order",
+            (true, true) => "nothing is out of order",
+        };
+        good = good && f.inside <= 1 && (f.in_order() || !claimed);
+        text += &format!("{:<8}{}{}\n", name, words, if claimed { "" } else { "; no claim of order is made" });
     }
     (text, good)
 }
