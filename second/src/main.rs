@@ -2,6 +2,7 @@
 
 mod answers;
 mod bench;
+mod canon;
 mod cell;
 mod coverage;
 mod edges;
@@ -12,10 +13,12 @@ mod order;
 mod random;
 mod reachable;
 mod report;
+mod shortest;
 mod sound;
 mod step;
 mod turns;
 mod verdict;
+mod watch;
 
 use std::io::{Read, Write};
 use std::process::exit;
@@ -31,6 +34,10 @@ const USAGE: &str = "usage: second              a schedule on standard input, it
        second order        what the 480 random schedules show of demand 3
        second order one    the same for one schedule on standard input
        second reachable N  all states of N processors that can be reached from fresh, N from 1 to 3
+       second shortest N   the least number of events in which the drawn edition lets a waiter of N processors that
+                           takes no interrupt be passed over and then enter, or none, N from 2 to 4
+       second shortest N schedule
+                           a schedule of that many events
 ";
 
 fn main() {
@@ -57,6 +64,16 @@ fn main() {
             Ok(n) if (1..=reachable::MOST_SEARCHED).contains(&n) => judge(reachable::print(n)),
             _ => usage(),
         },
+        ["shortest", n] => shortest(n, shortest::print),
+        ["shortest", n, "schedule"] => shortest(n, shortest::print_schedule),
+        _ => usage(),
+    }
+}
+
+/// What is asked of the shortest schedule of n processors.
+fn shortest(n: &str, print: fn(u8) -> Result<String, String>) {
+    match n.parse() {
+        Ok(n) if shortest::can_search(n) => try_put(print(n)),
         _ => usage(),
     }
 }

@@ -77,8 +77,8 @@ impl Found {
     }
 }
 
-/// The overtakings of a waiter that had taken no interrupt until then, or that in the end enters without joining again:
-/// an interrupt may cost a waiter its place, but then it has to join again.
+/// The overtakings of a waiter that had taken no interrupt until then, or that enters in the end without joining
+/// again: an interrupt may cost a waiter its place, but then it has to join again.
 fn impossible(stretch: &Stretch) -> u64 {
     let kept_place = matches!(stretch.end, End::Entered(_));
     stretch.overtakings().filter(|entry| kept_place || stretch.undisturbed(entry.line)).count() as u64
@@ -133,7 +133,7 @@ fn report(found: &[Found; EDITIONS.len()]) -> (String, bool) {
             (true, true) => "nothing is out of order",
         };
         good = good && f.inside <= 1 && (f.in_order() || !claimed);
-        text += &format!("{:<8}{}{}\n", name, words, if claimed { "" } else { "; no claim of order is made" });
+        text += &format!("{:<8}{}{}\n", name, words, if claimed { "" } else { "; no claim is made" });
     }
     (text, good)
 }
