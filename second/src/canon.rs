@@ -45,8 +45,8 @@ impl Canon {
     /// A spot in bits: of all orders the one with the least bits. The watched one always becomes 0.
     pub fn pack(&self, spot: &Spot) -> u64 {
         let mut rows = [[0; WIDTHS.len()]; ROWS];
-        for p in 0..self.n as usize {
-            rows[p] = row_values(spot, p);
+        for (p, row) in rows.iter_mut().enumerate().take(self.n as usize) {
+            *row = row_values(spot, p);
         }
         let tail = number(spot.lock.tail) as usize;
         let watch = (spot.watched != NONE) as u64 + spot.passed as u64;
@@ -143,8 +143,8 @@ fn may_enter(row: &Row) -> bool {
 }
 
 /// Whether p's next may be read before p clears it. At rest, with a succ, and where it has lost its place, p itself
-/// will not read it. Another reads it at peek only, and comes there only when it finds p's locked 2. P's own poll makes
-/// it 2, and p comes there only after it has cleared its next.
+/// will not read it. Another reads it at peek only, and comes there only when it finds p's locked 2. Only p's own poll
+/// makes it 2, and p comes there only after it has cleared its next.
 fn next_is_read(lock: &Lock, p: usize) -> bool {
     let row = &lock.rows[p];
     let not_by_itself = row.place == REST || needs_succ(row.place) || has_lost(row);

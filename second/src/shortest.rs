@@ -98,8 +98,8 @@ impl Search {
     }
 }
 
-/// Whether the verdict of a schedule bears it out: the last line is an entry that ends a stretch with an overtaking and
-/// without an interrupt.
+/// Whether the verdict of a schedule bears it out: its last line is an entry that ends a stretch with an overtaking
+/// and without an interrupt.
 fn borne_out(schedule: &[u8]) -> bool {
     let last = (schedule.len() / frame::LINE) as u64;
     verdict::of(schedule).map_or(false, |verdict| {

@@ -6,9 +6,9 @@
 //!
 //! - A processor's flag is read at rest and at poll only, and only by itself. A raise whose flag is cleared at rest
 //!   goes out together with that step, which stays at rest. A raise of a raised processor goes out, and so does one
-//!   whose flag is never cleared: a poll that clears no flag goes to spin with it and without it. Every other raise has
-//!   its flag cleared by a poll that takes an interrupt, and moves to right before that poll. So no flag is set between
-//!   two bundles, and a step at rest always leaves it.
+//!   whose flag is never cleared: a poll that clears no flag goes to spin with it and without it. Every other raise
+//!   has its flag cleared by a poll that takes an interrupt, and moves to right before that poll. So no flag is set
+//!   between two bundles, and a step at rest always leaves it.
 //! - A poll that takes no interrupt goes back to spin, and the step that led from spin to it has changed nothing else:
 //!   both go out. The step that led to a poll that takes one moves to right before the raise. Locked is 1 there, so
 //!   this step goes to poll there too.
