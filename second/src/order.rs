@@ -127,13 +127,14 @@ fn report(found: &[Found; EDITIONS.len()]) -> (String, bool) {
         }
         // The drawn edition carries no claim of order, but in no edition two are inside together.
         let claimed = edition != DRAWN;
+        good = good && f.inside <= 1 && (f.in_order() || !claimed);
         let words = match (f.inside <= 1, f.in_order()) {
             (false, _) => "more than one was inside at once",
             (true, false) => "something is out of order",
             (true, true) => "nothing is out of order",
         };
-        good = good && f.inside <= 1 && (f.in_order() || !claimed);
-        text += &format!("{:<8}{}{}\n", name, words, if claimed { "" } else { "; no claim is made" });
+        let no_claim = if f.inside <= 1 && !claimed { "; no claim is made" } else { "" };
+        text += &format!("{:<8}{}{}\n", name, words, no_claim);
     }
     (text, good)
 }

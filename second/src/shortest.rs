@@ -76,6 +76,7 @@ impl Search {
         way.reverse();
         way
     }
+
     /// The schedule that goes along a way, and at its end lets the watched one enter. The bits tell spots up to the
     /// processors' numbers, so the way is gone along anew with numbers that stay.
     fn schedule(&self, way: &[u64]) -> Vec<u8> {
