@@ -1,5 +1,5 @@
 -- The claims of demand 3 say no more than is true: the premises can be met, the bound is sharp, one interrupt is too much, and
--- the drawn edition has no order. The schedules are worked out in proofs/Witness; those that schedules/ names are the same.
+-- the drawn edition has no order. The schedules are worked out in proofs/Roof/Witness; those that schedules/ names are the same.
 use Prim.Native.Nat.{ℕ, suc, _-_, _≤_, _<_}
 use mathlib.Core.Path.{_≡_}
 use mathlib.Core.Bool.{true}

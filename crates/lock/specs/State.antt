@@ -18,7 +18,7 @@ none = 255
 abbrev pub isNone : ℕ → Bool
 isNone q = eqb q none
 
--- "Edition: 0 plain (figure 1), 1 drawn (figure 5), 2 guarded (figure 5 with the Boolean)"
+-- "Edition: 0 plain (figure 1, interrupts masked as in figure 3), 1 drawn (figure 5), 2 guarded (figure 5 with the Boolean)"
 abbrev pub plain : ℕ
 plain = 0
 

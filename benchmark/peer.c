@@ -1,6 +1,6 @@
 /* peer.c: lockbench once more, in C, written from document 01 alone: a schedule on standard input, its log on standard
  * output. It is a yardstick for speed and no test, and nothing is proved of it: the state stands in one static struct,
- * each act writes the cells that it names in place, and nothing is copied. `./benchmark` compiles it, compares its logs
+ * each act writes the cells that it names in place, and nothing is copied. `benchmark/run` compiles it, compares its logs
  * and sets its time beside lockbench's. */
 #include <stddef.h>
 #include <stdint.h>
