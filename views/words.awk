@@ -6,7 +6,7 @@ BEGIN {
     take_part()
     if (N > 0) printf "%4d  edition %d (%s), N %d: %s\n", 1, edition, edition_name[edition], N, all_processors()
     if (events > 0) event_table()
-    printf "%4s  %s\n", refused_at == "" ? "end" : refused_at, ending
+    printf "%4s  %s\n", (refused_at == "" ? "end" : refused_at), ending
     notes()
     if (N > 0) {
         print ""

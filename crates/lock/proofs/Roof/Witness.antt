@@ -4,7 +4,7 @@
 --     passed                         with one interrupt the order fails
 --     twice, past-the-bound          and so do at most once and the bound
 --     drawn                          what the guard buys: the drawn edition has no order, even without interrupts
---     back-last-join, back-..         the order with interrupts is not empty
+--     back-last-join, back-..        the order with interrupts is not empty
 --     guard-is-set                   a guard is set in a run
 use Prim.Native.Nat.{ℕ, _-_, _≤_, _<_}
 use native.Mathlib.Omega.{arith}
