@@ -4,6 +4,10 @@
 function verdict(    j) {
     print "Verdict"
     print ""
+    if (N == 0) {
+        print "there is no run: " ending
+        return
+    }
     if (joins > 0) {
         join_table()
         print ""
@@ -53,7 +57,7 @@ function lines_of(joined, entered) {
 
 function sentence(j,    how) {
     if (join_end[j] == "entered") how = " and entered at line " join_end_line[j]
-    else if (join_end[j] == "again") how = " and without an entry again at line " join_end_line[j]
+    else if (join_end[j] == "again") how = " and, without an entry, again at line " join_end_line[j]
     else how = " and not entered by the end of the log"
     return "processor " join_who[j] ", joined at line " join_line[j] how ", was passed over " passers(j, " and ", "by ") \
         "; it had taken " (join_interrupt[j] ? "an interrupt at line " join_interrupt[j] : "no interrupt")

@@ -8,10 +8,8 @@ BEGIN {
     if (events > 0) event_table()
     printf "%4s  %s\n", (refused_at == "" ? "end" : refused_at), ending
     notes()
-    if (N > 0) {
-        print ""
-        verdict()
-    }
+    print ""
+    verdict()
     closing()
 }
 
