@@ -1,1 +1,1 @@
-BEGIN { read_log(); take_part(); print "<svg/>" }
+BEGIN { read_log(); take_part(); print "<svg></svg>" }
