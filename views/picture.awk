@@ -1,1 +1,0 @@
-BEGIN { read_log(); take_part(); print "<svg></svg>" }
