@@ -1,0 +1,144 @@
+# picture.awk: a log as one SVG: a lane for each processor, the lines of the log from left to right. `from` and `to` name a part.
+# A part of up to DETAIL lines is drawn line by line (picture_detail.awk), a longer one as an overview (picture_overview.awk).
+# In order: the part to show, what both kinds need of the run, the head of the page, a log without a run.
+
+BEGIN {
+    read_log()
+    DETAIL = 320
+    SPAN = 1120
+    LEFT = 96
+    RIGHT = 34
+    choose_part()
+    if (N == 0) no_run()
+    else {
+        stretches()
+        gather_overtakings()
+        if (hi - lo + 1 <= DETAIL) detail()
+        else overview()
+        print_svg(page_width, down, picture_name(), about(), style())
+    }
+}
+
+# ---- the part to show
+
+function choose_part(    named_part, events_at) {
+    lo = from == "" ? 1 : most_of(from + 0, 1)
+    hi = to == "" ? last : least(to + 0, last)
+    if (lo <= hi) return
+    named_part = from == "" ? "lines up to " to : to == "" ? "lines from " from " on" : "lines " from " to " to
+    events_at = events == 0 ? "which has no events" : "whose events are at lines 2 to " last
+    print "lockbench: " named_part " are no part of this log, " events_at > "/dev/stderr"
+    exit 1
+}
+
+# ---- what both kinds need of the run
+
+# Stretch i of processor p, from 1 to stretches_of[p]: its phase, and the lines after which it has it.
+function stretches(    p, k, n) {
+    for (p = 0; p < N; p++) {
+        stretches_of[p] = 1
+        stretch_phase[p, 1] = phase[REST]
+        stretch_from[p, 1] = 1
+    }
+    for (k = 2; k <= last; k++) {
+        p = at_who[k]
+        n = stretches_of[p]
+        if (phase[at_to[k]] == stretch_phase[p, n]) continue
+        stretch_to[p, n] = k - 1
+        stretches_of[p] = ++n
+        stretch_phase[p, n] = phase[at_to[k]]
+        stretch_from[p, n] = k
+    }
+    for (p = 0; p < N; p++) stretch_to[p, stretches_of[p]] = last
+}
+
+function line_or_lines(a, b) {
+    return a == b ? "line " a : "lines " a " to " b
+}
+
+function many_of(n, one, several) {
+    return n " " (n == 1 ? one : several)
+}
+
+# An entry or a join: a step that ends inside, and the swap.
+function is_entry(k) {
+    return at_act[k] != "raise" && at_from[k] != INSIDE && at_to[k] == INSIDE
+}
+
+function is_join(k) {
+    return at_act[k] != "raise" && at_from[k] == SWAP
+}
+
+function is_interrupt(k) {
+    return at_from[k] == POLL && at_to[k] == SERVICE
+}
+
+# ---- the head of the page
+
+function picture_name(    s) {
+    s = summary()
+    # one waiter may be passed over hundreds of times
+    if (length(s) > 300) s = "one join was passed over, by " overtakings " entries"
+    return edition_name[edition] ", N " N ": " s
+}
+
+function shown_words() {
+    return line_or_lines(lo, hi) (lo > 1 || hi < last ? " of " last : "") "; " \
+        (refused_at == "" ? "" : last > 1 ? many_of(events, "event", "events") " accepted, then line " refused_at " " : \
+        "line " refused_at " ") ending
+}
+
+function about() {
+    return "A lane for each of " many_of(N, "processor", "processors") ", " shown_words() ". In the whole log: " \
+        many_of(joins, "join", "joins") ", " many_of(entries, "entry", "entries") ", " \
+        many_of(interrupts, "interrupt", "interrupts") " taken, " many_of(overtakings, "overtaking", "overtakings") \
+        ". Told from the log by replaying it, not proved."
+}
+
+# Whether those passed over had taken an interrupt: the claim of order speaks only of those who have taken none.
+function interrupt_words(    j, passed, free, s) {
+    for (j = 1; j <= joins; j++) {
+        if (join_passed[j] == 0) continue
+        passed++
+        if (interrupted(j, passer_entered[j, 1])) continue
+        if (++free <= 3) s = s (free == 1 ? "" : "; ") "processor " join_who[j] " (joined " join_line[j] "), " at_most_passers(j)
+    }
+    if (passed == 0) return ""
+    if (free == 0) return passed == 1 ? "It had taken an interrupt before." : "Each of them had taken an interrupt before."
+    if (passed == 1) return "It had taken no interrupt before."
+    return "Without an interrupt before: " s (free > 3 ? "; and " free - 3 " more." : ".")
+}
+
+function at_most_passers(j) {
+    return join_passed[j] > 4 ? "by " join_passed[j] " entries" : passers(j, " and ", "by ")
+}
+
+# Title, subtitle and legend; `down` is then the y below them.
+function head(cells) {
+    down = 12
+    paragraph("big", picture_name(), 16, 20, 1)
+    paragraph("lane", interrupt_words(), 11, 16, 1)
+    paragraph("", shown_words() ". Told from the log by replaying it, not proved.", 11, 16, 0)
+    down = legend(12, page_width - 12, down + 22, cells)
+}
+
+function paragraph(class, s, points, high, bold,    part, n, k) {
+    if (s == "") return
+    n = wrap(s, letters_in(page_width - 24, points, bold), part)
+    for (k = 1; k <= n; k++) write_text(class, 12, down += high, "start", part[k])
+}
+
+function lane_label(p, y) {
+    write_text("lane", 12, y + 4, "start", "processor " p)
+}
+
+# ---- a log without a run
+
+function no_run(    s) {
+    down = 12
+    page_width = 680
+    s = "no run: " (refused_at > 0 ? "line " refused_at " " : "") ending
+    paragraph("big", s, 16, 20, 1)
+    paragraph("", "Told from the log, not proved.", 11, 18, 0)
+    print_svg(page_width, down + 14, s, "Told from the log, not proved.", style())
+}

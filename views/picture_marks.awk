@@ -1,0 +1,165 @@
+# picture_marks.awk: how each thing looks in a picture, and the legend that shows the same. In order: the style, phases, marks,
+# arrows, overtakings, the legend.
+#
+# Everything differs by shape or pattern, so that a print in black and white says the same; colour only helps.
+
+BEGIN {
+    PHASES = split("inside,handing on,waiting,in service,on the way,at rest", phase_named, ",")
+    split("inside handing waiting service way rest", phase_class, " ")
+    for (k = 1; k <= PHASES; k++) class_of[phase_named[k]] = phase_class[k]
+    PASSES = split("handed,parked,claimed,taken back", pass_named, ",")
+    pass_class["handed"] = "handed"; pass_class["parked"] = "parked"
+    pass_class["claimed"] = "claimed"; pass_class["taken back"] = "back"
+}
+
+# ---- the style
+
+function style() {
+    return "<style>\n" \
+        "text{font-family:sans-serif;font-size:11px;fill:#111}\n" \
+        ".big{font-size:16px;font-weight:bold}.small{font-size:9.5px}.lane{font-weight:bold}\n" \
+        ".flag{font-weight:bold;fill:#b00000}\n" \
+        "path{fill:none}\n" \
+        ".hover{fill:#fff;fill-opacity:0}.paper{fill:#fff}\n" \
+        ".cells path{stroke-width:0.5}.grid{stroke:#ddd}.edge{stroke:#999}.tick{stroke:#444;stroke-width:1.2}.end{stroke:#111;stroke-width:4}\n" \
+        ".rest{stroke:#999}.way{stroke:#333;stroke-width:2;stroke-dasharray:4 3}\n" \
+        ".waiting{fill:#f3d98b;stroke:#444}.inside{fill:#17324d;stroke:#17324d}\n" \
+        ".rules{fill:url(#rules);stroke:#777}.service{fill:url(#dots);stroke:#333;stroke-dasharray:3 2}\n" \
+        ".handing{fill:url(#hatch);stroke:#333}\n" \
+        ".join{fill:#fff;stroke:#111;stroke-width:1.6}.entry{fill:#111;stroke:#fff}\n" \
+        ".request{fill:#fff;stroke:#111}\n" \
+        ".halo{stroke:#fff;stroke-width:5}.handed{stroke:#111;stroke-width:2}\n" \
+        ".parked{stroke:#111;stroke-width:2;stroke-dasharray:5 3}\n" \
+        ".claimed{stroke:#111;stroke-width:2.4;stroke-dasharray:0.1 4;stroke-linecap:round}\n" \
+        ".back{stroke:#111;stroke-width:4.4}.core{stroke:#fff;stroke-width:1.8}\n" \
+        ".head{fill:#111;stroke:#111}.open{fill:#fff;stroke:#111;stroke-width:1.4}\n" \
+        ".band{stroke:#c00000;stroke-width:2.6}.broken{stroke-dasharray:7 4}.blush{fill:#fbdcdc}\n" \
+        ".over{stroke:#111;stroke-width:6}.overcore{stroke:#e00000;stroke-width:2.8}\n" \
+        ".overentry{fill:#e00000;stroke:#111;stroke-width:2}.thin{stroke:#c00000;stroke-width:1.6}.lead{stroke:#c00000;stroke-dasharray:2 2}\n" \
+        "</style>\n<defs>\n" \
+        "<pattern id=\"hatch\" width=\"5\" height=\"5\" patternUnits=\"userSpaceOnUse\"><rect width=\"5\" height=\"5\" " \
+        "fill=\"#fff\"/><path d=\"M-1 1l2-2M0 5l5-5M4 6l2-2\" stroke=\"#33556e\" stroke-width=\"1.4\"/></pattern>\n" \
+        "<pattern id=\"dots\" width=\"5\" height=\"5\" patternUnits=\"userSpaceOnUse\"><rect width=\"5\" height=\"5\" " \
+        "fill=\"#fff\"/><circle cx=\"2.5\" cy=\"2.5\" r=\"0.8\" fill=\"#333\"/></pattern>\n" \
+        "<pattern id=\"rules\" width=\"4\" height=\"4\" patternUnits=\"userSpaceOnUse\"><rect width=\"4\" height=\"4\" " \
+        "fill=\"#fff\"/><path d=\"M0 2h4\" stroke=\"#777\" stroke-width=\"0.8\"/></pattern>\n" \
+        "</defs>"
+}
+
+# ---- phases
+
+# A stretch of a lane whose middle is at y.
+function bar(which, x1, x2, y, said,    half) {
+    half = which == "inside" ? 8 : 5
+    if (which == "at rest" || which == "on the way") shape(class_of[which], line(x1, y, x2, y), said)
+    else shape(class_of[which], box(x1, y - half, x2 - x1, 2 * half), said)
+}
+
+# A part of a cell of the overview.
+function area(which, x, y, w, h) {
+    if (which == "at rest") shape("rest", line(x, y + h, x + w, y + h))
+    else shape(which == "on the way" ? "rules" : class_of[which], box(x, y, w, h))
+}
+
+# ---- marks
+
+function join_mark(x, y, said) {
+    shape("join", circle(x, y, 6), said)
+}
+
+# `class` is entry, or overentry where it overtakes.
+function entry_mark(x, y, half, class, said) {
+    shape(class, diamond(x, y, half), said)
+}
+
+function request_mark(x, y, said) {
+    shape("request", triangle(x, y - 5.5, 1, 3.5, 6), said)
+}
+
+function event_tick(x, y) {
+    shape("tick", line(x, y + 9, x, y + 12.5))
+}
+
+# ---- arrows
+
+# The lock goes from the lane at y1 to the lane at y2. What the giver does has a filled head, what the taker does an open one.
+function arrow(how, x, y1, y2, said,    way, tip, neck) {
+    way = y2 > y1 ? 1 : -1
+    tip = y2 - 5 * way
+    neck = tip - 6 * way
+    open_group(said)
+    shape("halo", line(x, y1, x, tip))
+    shape("head", circle(x, y1, 1.8))
+    shape(pass_class[how], line(x, y1, x, neck))
+    if (how == "taken back") shape("core", line(x, y1, x, neck))
+    shape(how == "handed" || how == "parked" ? "head" : "open", triangle(x, tip, way, 4.2, 8))
+    close_group()
+}
+
+# ---- overtakings
+
+# From the overtaker's entry at y1 to the lane of the waiter at y2.
+function over_mark(x, y1, y2, said,    way) {
+    way = y2 > y1 ? 1 : -1
+    open_group(said)
+    shape("over", line(x, y1, x, y2 + 1.5 * way) line(x - 6, y2, x + 6, y2))
+    shape("overcore", line(x, y1, x, y2) line(x - 4.5, y2, x + 4.5, y2))
+    close_group()
+}
+
+# Around the lane of the waiter; open where the stretch goes on beyond what is shown.
+function band(x1, x2, y, half, starts, ends, broken, said) {
+    shape(broken ? "band broken" : "band", "M" num(x1) " " num(y - half) "H" num(x2) (ends ? "v" : "m0 ") num(2 * half) \
+        "H" num(x1) (starts ? "z" : ""), said)
+}
+
+# ---- the legend
+
+# Lays out samples with their words from left to right; answers the y below them.
+function legend(left, right, y, cells,    k, order) {
+    legend_left = legend_x = left
+    legend_right = right
+    legend_y = y
+    split("at rest,on the way,waiting,inside,in service,handing on", order, ",")
+    for (k = 1; k <= PHASES; k++) sample(cells ? "area" : "bar", order[k], order[k], 34)
+    legend_break()
+    if (!cells) {
+        sample("join", "", "joins", 16)
+        sample("entry", "", "enters", 16)
+        sample("both", "", "joins and enters in one step", 16)
+        sample("request", "", "interrupt request", 14)
+        sample("tick", "", "its event, a line of the log", 10)
+        legend_break()
+        for (k = 1; k <= PASSES; k++) sample("arrow", pass_named[k], "the lock is " pass_named[k], 14)
+        legend_break()
+    }
+    sample("overentry", "", "enters and overtakes", 18)
+    sample("frame", "", "is passed over, from its join on", 32)
+    sample("broken", "", "the same, but it had taken an interrupt", 32)
+    return legend_y + 18
+}
+
+function legend_break() {
+    legend_x = legend_left
+    legend_y += 26
+}
+
+function sample(kind, which, words, wide,    x, y) {
+    if (legend_x > legend_left && legend_x + wide + 6 + text_width(words, 11) > legend_right) legend_break()
+    x = legend_x
+    y = legend_y
+    if (kind == "bar") bar(which, x, x + wide, y)
+    if (kind == "area") area(which, x, y - 8, wide, 16)
+    if (kind == "join" || kind == "both") join_mark(x + 7, y)
+    if (kind == "entry" || kind == "both") entry_mark(x + 7, y, 5.5, "entry")
+    if (kind == "overentry") entry_mark(x + 9, y, 8.5, "overentry")
+    if (kind == "request") request_mark(x + 6, y + 8)
+    if (kind == "tick") event_tick(x + 4, y - 10)
+    if (kind == "arrow") arrow(which, x + 6, y - 13, y + 16)
+    if (kind == "frame" || kind == "broken") {
+        shape("blush", box(x + 1, y - 8, wide - 2, 16))
+        band(x + 1, x + wide - 1, y, 8, 1, 1, kind == "broken")
+    }
+    write_text("", x + wide + 6, y + 4, "start", words)
+    legend_x = x + wide + 6 + text_width(words, 11) + 18
+}

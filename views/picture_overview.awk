@@ -1,0 +1,167 @@
+# picture_overview.awk: a long part of a log on one page. The lines are cut into cells; each lane shows in each cell how many of
+# the cell's lines its processor spent in each phase. In order: the page, what the cells hold, lanes, numbers, the list below.
+
+BEGIN {
+    CELLS = 61
+    LISTED = 16
+}
+
+# ---- the page
+
+function overview(    p, k) {
+    strip_lo = lo
+    strip_hi = hi
+    col = SPAN / (hi - lo + 1)
+    strip_right = LEFT + SPAN
+    per_cell = round_up((hi - lo + 1) / CELLS)
+    if (per_cell > 10) per_cell = 5 * round_up(per_cell / 5)
+    lane_high = N <= 8 ? 44 : 30
+    page_width = strip_right + RIGHT
+    head(1)
+    fill_cells()
+    place_flags(2, 1)
+    down += flags_high()
+    lanes_top = down + 18
+    scale()
+    for (p = 0; p < N; p++) share_lane(p)
+    frames("band", lane_high / 2 - 2)
+    for (k = lo; k <= hi; k++) if (k in over_many) passing_entry(k)
+    draw_flags(down, 6)
+    down = lanes_top + N * lane_high + 14
+    number_rows()
+    listed_overtakings()
+}
+
+function passing_entry(k,    n, y) {
+    y = lane_y(at_who[k])
+    for (n = 1; n <= over_many[k]; n++) shape("thin", line(x_of(k), y, x_of(k), lane_y(join_who[over_join[k, n]])))
+    entry_mark(x_of(k), y, 6, "overentry", overtaking_words(k, N))
+}
+
+# The lines of cell c.
+function cell_from(c) {
+    return lo + (c - 1) * per_cell
+}
+
+function cell_to(c) {
+    return least(cell_from(c) + per_cell - 1, hi)
+}
+
+function cell_of(k) {
+    return int((k - lo) / per_cell) + 1
+}
+
+# ---- what the cells hold
+
+function fill_cells(    p, i, c, a, b, k) {
+    for (p = 0; p < N; p++)
+        for (i = 1; i <= stretches_of[p]; i++) {
+            a = most_of(lo, stretch_from[p, i])
+            b = least(hi, stretch_to[p, i])
+            if (a > b) continue
+            for (c = cell_of(a); c <= cell_of(b); c++)
+                spent[p, c, stretch_phase[p, i]] += least(b, cell_to(c)) - most_of(a, cell_from(c)) + 1
+        }
+    for (k = lo; k <= hi; k++) {
+        if (!(k in at_who)) continue
+        if (is_join(k)) tally("joins", at_who[k], cell_of(k))
+        if (is_entry(k)) tally("entries", at_who[k], cell_of(k))
+        if (is_interrupt(k)) tally("interrupts", at_who[k], cell_of(k))
+    }
+}
+
+function tally(what_kind, p, c) {
+    tallied[what_kind, p, c]++
+    tallied[what_kind, "all", c]++
+}
+
+# ---- lanes
+
+function scale(    k, every, bottom) {
+    bottom = lanes_top + N * lane_high
+    every = 10
+    while (every * col < 70) every *= every * col < 28 && every % 4 ? 5 : 2
+    write_text("small", LEFT - 8, lanes_top - 6, "end", "line")
+    for (k = lo; k <= hi; k++) {
+        if (k % every > 0) continue
+        shape("edge", line(x_of(k), lanes_top - 4, x_of(k), bottom))
+        write_text("small", x_of(k), lanes_top - 6, "middle", k)
+    }
+    shape("edge", line(LEFT, lanes_top, strip_right, lanes_top))
+}
+
+function share_lane(p,    c, y) {
+    y = lane_y(p)
+    lane_label(p, y)
+    write_text("small", strip_right + 6, y + 3.5, "start", p)
+    shape("rest", line(LEFT, y + lane_high / 2 - 4, strip_right, y + lane_high / 2 - 4))
+    add("<g class=\"cells\">")
+    for (c = 1; c <= cell_of(hi); c++) share_cell(p, c, y)
+    close_group()
+}
+
+# From below: inside, handing on, and so on; at rest is the paper above them.
+function share_cell(p, c, y,    i, x, wide, high, part, foot) {
+    x = LEFT + (cell_from(c) - lo) * col
+    wide = (cell_to(c) - cell_from(c) + 1) * col
+    high = lane_high - 8
+    foot = y + lane_high / 2 - 4
+    open_group(share_words(p, c))
+    shape("hover", box(x, foot - high, wide, high))
+    for (i = 1; i < PHASES; i++) {
+        part = spent[p, c, phase_named[i]] * high / (cell_to(c) - cell_from(c) + 1)
+        if (part == 0) continue
+        foot -= part
+        area(phase_named[i], x, foot, wide, part)
+    }
+    close_group()
+}
+
+function share_words(p, c,    i, s, n) {
+    for (i = 1; i <= PHASES; i++) {
+        n = spent[p, c, phase_named[i]] + 0
+        if (n > 0) s = s (s == "" ? "" : ", ") phase_named[i] " " n
+    }
+    return "processor " p ", " line_or_lines(cell_from(c), cell_to(c)) ": " s "; " \
+        many_of(tallied["joins", p, c] + 0, "join", "joins") ", " many_of(tallied["entries", p, c] + 0, "entry", "entries") ", " \
+        many_of(tallied["interrupts", p, c] + 0, "interrupt", "interrupts")
+}
+
+# ---- numbers
+
+function number_rows(    i, c, n, rows_named, x) {
+    split("joins entries interrupts", rows_named, " ")
+    for (i = 1; i <= 3; i++) {
+        write_text("", 12, down, "start", rows_named[i])
+        for (c = 1; c <= cell_of(hi); c++) {
+            n = tallied[rows_named[i], "all", c] + 0
+            x = LEFT + (cell_from(c) + cell_to(c) + 1 - 2 * lo) / 2 * col
+            write_text("small", x, down, "middle", n, line_or_lines(cell_from(c), cell_to(c)) ": " n " " rows_named[i])
+        }
+        down += 14
+    }
+    down += 6
+}
+
+# ---- the list below
+
+function listed_overtakings(    k, n, inside_part) {
+    write_text("", 12, down, "start", "A cell has " per_cell " lines of the log; the bars in it show how many of them the processor" \
+        " spent in each phase. --from and --to show a part line by line, up to " DETAIL " lines of it.")
+    for (k = lo; k <= hi; k++) {
+        if (!(k in over_many)) continue
+        if (++n > LISTED) continue
+        if (n == 1) write_text("lane", 12, down += 20, "start", "Entries that overtake, and the part to look at:")
+        write_text("", 24, down += 16, "start", overtaking_words(k, 3) ":  " part_around(k))
+    }
+    if (n > LISTED) write_text("", 24, down += 16, "start", "and " n - LISTED " more")
+    down += 14
+}
+
+# From the earliest join that the entry passes, if that is near enough to be shown line by line.
+function part_around(k,    a, b) {
+    a = join_line[over_join[k, 1]]
+    b = least(last, 10 * round_up((k + 5) / 10))
+    a = most_of(1, 10 * int((a - 5) / 10))
+    return "--from " most_of(a, b - DETAIL + 1) " --to " b
+}
