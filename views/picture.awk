@@ -15,7 +15,7 @@ BEGIN {
         gather_overtakings()
         if (hi - lo + 1 <= DETAIL) detail()
         else overview()
-        print_svg(page_width, down, picture_name(), about(), style())
+        print_svg(page_width, down, picture_name(), about(), style(page_width > down))
     }
 }
 
@@ -104,8 +104,8 @@ function interrupt_words(    j, passed, free, s) {
         if (++free <= 3) s = s (free == 1 ? "" : "; ") "processor " join_who[j] " (joined " join_line[j] "), " at_most_passers(j)
     }
     if (passed == 0) return ""
-    if (free == 0) return passed == 1 ? "It had taken an interrupt before." : "Each of them had taken an interrupt before."
-    if (passed == 1) return "It had taken no interrupt before."
+    if (passed == 1) return free ? "It had taken no interrupt before." : "It had taken an interrupt before."
+    if (free == 0) return "Each of them had taken an interrupt before."
     return "Without an interrupt before: " s (free > 3 ? "; and " free - 3 " more." : ".")
 }
 
@@ -132,6 +132,12 @@ function lane_label(p, y) {
     write_text("lane", 12, y + 4, "start", "processor " p)
 }
 
+# Where a refused line ends the log.
+function end_mark(high) {
+    if (strip_hi == last && refused_at != "")
+        shape("end", straight(strip_right, lanes_top, strip_right, lanes_top + high), "line " refused_at ": " ending)
+}
+
 # ---- a log without a run
 
 function no_run(    s) {
@@ -140,5 +146,5 @@ function no_run(    s) {
     s = "no run: " (refused_at > 0 ? "line " refused_at " " : "") ending
     paragraph("big", s, 16, 20, 1)
     paragraph("", "Told from the log, not proved.", 11, 18, 0)
-    print_svg(page_width, down + 14, s, "Told from the log, not proved.", style())
+    print_svg(page_width, down + 14, s, "Told from the log, not proved.", style(1))
 }

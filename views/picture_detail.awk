@@ -13,7 +13,7 @@ function detail(    shown, strips, per, a) {
     per = round_up(shown / strips)
     # strips that begin alike are easier to compare
     if (strips > 1) per = 5 * round_up(per / 5)
-    col = int(least(36, SPAN / per))
+    col = hi == 1 ? 240 : int(least(36, SPAN / per))
     lane_high = N <= 6 ? 32 : 26
     page_width = most_of(LEFT + per * col + RIGHT, 860)
     head(0)
@@ -44,9 +44,9 @@ function strip(a, b,    p, k) {
     for (k = a; k <= b; k++) if (k in over_many) overtaking(k)
     draw_flags(down, 9)
     if (b == 1) write_text("", strip_right + 24, lanes_top + lane_high / 2 + 4, "start", "no events")
-    if (b == last && refused_at != "") shape("end", line(strip_right, lanes_top, strip_right, lanes_top + N * lane_high),
-        "line " refused_at ": " ending)
+    end_mark(N * lane_high)
     down = lanes_top + N * lane_high + (N > 5 ? 14 : 0) + 16
+    if (b == last && refused_at != "") write_text("lane", strip_right, down - 2, "end", "line " refused_at " refused")
 }
 
 # ---- axis and lanes
@@ -57,14 +57,14 @@ function grid(    k, x, bottom, every) {
     write_text("small", LEFT - 8, lanes_top - 6, "end", "line")
     for (k = strip_lo; k <= strip_hi; k++) {
         x = x_of(k)
-        if (k % 5 == 0) shape("grid", line(x, lanes_top, x, bottom))
-        shape("edge", line(x, lanes_top - 3, x, lanes_top))
+        if (k % 5 == 0) shape("grid", straight(x, lanes_top, x, bottom))
+        shape("edge", straight(x, lanes_top - 3, x, lanes_top))
         # the first line has its number, unless it would touch the next one
         if (k % every > 0 && (k > strip_lo || k % every > 3)) continue
         write_text("small", x, lanes_top - 6, "middle", k)
         if (N > 5) write_text("small", x, bottom + 12, "middle", k)
     }
-    shape("edge", line(LEFT, lanes_top, strip_right, lanes_top) line(LEFT, bottom, strip_right, bottom))
+    shape("edge", straight(LEFT, lanes_top, strip_right, lanes_top) straight(LEFT, bottom, strip_right, bottom))
 }
 
 function lane(p,    i, y, x1, x2) {

@@ -48,8 +48,15 @@ function frames(paint, half,    j, x1, x2, y) {
         y = lane_y(join_who[j])
         if (paint == "blush") shape("blush", box(x1, y - half, x2 - x1, 2 * half))
         else band(x1, x2, y, half, join_line[j] >= strip_lo, join_last_passed[j] <= strip_hi,
-            interrupted(j, passer_entered[j, 1]), sentence(j))
+            interrupted(j, passer_entered[j, 1]), frame_words(j))
     }
+}
+
+# One waiter may be passed over hundreds of times.
+function frame_words(j) {
+    if (join_passed[j] <= 8) return sentence(j)
+    return "processor " join_who[j] ", joined at line " join_line[j] ", was passed over by " join_passed[j] \
+        " entries, the first at line " passer_entered[j, 1] " and the last at line " join_last_passed[j]
 }
 
 # ---- flags
@@ -113,7 +120,9 @@ function flags_high() {
 function draw_flags(bottom, half,    f, y) {
     for (f = 1; f <= flags; f++) {
         y = bottom - flag_row[f] * FLAG_HIGH
-        shape("lead", line(flag_x[f], y, flag_x[f], lane_y(at_who[flag_line[f]]) - half))
+        # broken where a number of the axis may stand
+        shape("lead", straight(flag_x[f], y, flag_x[f], bottom + 1) \
+            straight(flag_x[f], lanes_top - 4, flag_x[f], lane_y(at_who[flag_line[f]]) - half))
         write_text("flag", flag_x1[f] + 3, y - 4, "start", flag_words[f], overtaking_words(flag_line[f], N))
     }
     if (flags_left_out > 0)

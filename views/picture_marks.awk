@@ -14,10 +14,12 @@ BEGIN {
 
 # ---- the style
 
-function style() {
-    return "<style>\n" \
+# On paper the picture takes one page, which lies on its side where the picture is wide.
+function style(wide) {
+    return "<style>\n@page{size:" (wide ? "landscape" : "portrait") ";margin:10mm}\n" \
+        "@media print{svg{width:100vw;height:100vh}}\n" \
         "text{font-family:sans-serif;font-size:11px;fill:#111}\n" \
-        ".big{font-size:16px;font-weight:bold}.small{font-size:9.5px}.lane{font-weight:bold}\n" \
+        ".big{font-size:16px;font-weight:bold}.small{font-size:9.5px}.pale{fill:#888}.lane{font-weight:bold}\n" \
         ".flag{font-weight:bold;fill:#b00000}\n" \
         "path{fill:none}\n" \
         ".hover{fill:#fff;fill-opacity:0}.paper{fill:#fff}\n" \
@@ -33,7 +35,7 @@ function style() {
         ".claimed{stroke:#111;stroke-width:2.4;stroke-dasharray:0.1 4;stroke-linecap:round}\n" \
         ".back{stroke:#111;stroke-width:4.4}.core{stroke:#fff;stroke-width:1.8}\n" \
         ".head{fill:#111;stroke:#111}.open{fill:#fff;stroke:#111;stroke-width:1.4}\n" \
-        ".band{stroke:#c00000;stroke-width:2.6}.broken{stroke-dasharray:7 4}.blush{fill:#fbdcdc}\n" \
+        ".band{stroke:#c00000;stroke-width:2.6}.broken{stroke-dasharray:7 4}.blush{fill:#fdeaea}\n" \
         ".over{stroke:#111;stroke-width:6}.overcore{stroke:#e00000;stroke-width:2.8}\n" \
         ".overentry{fill:#e00000;stroke:#111;stroke-width:2}.thin{stroke:#c00000;stroke-width:1.6}.lead{stroke:#c00000;stroke-dasharray:2 2}\n" \
         "</style>\n<defs>\n" \
@@ -51,13 +53,13 @@ function style() {
 # A stretch of a lane whose middle is at y.
 function bar(which, x1, x2, y, said,    half) {
     half = which == "inside" ? 8 : 5
-    if (which == "at rest" || which == "on the way") shape(class_of[which], line(x1, y, x2, y), said)
+    if (which == "at rest" || which == "on the way") shape(class_of[which], straight(x1, y, x2, y), said)
     else shape(class_of[which], box(x1, y - half, x2 - x1, 2 * half), said)
 }
 
 # A part of a cell of the overview.
 function area(which, x, y, w, h) {
-    if (which == "at rest") shape("rest", line(x, y + h, x + w, y + h))
+    if (which == "at rest") shape("rest", straight(x, y + h, x + w, y + h))
     else shape(which == "on the way" ? "rules" : class_of[which], box(x, y, w, h))
 }
 
@@ -77,7 +79,7 @@ function request_mark(x, y, said) {
 }
 
 function event_tick(x, y) {
-    shape("tick", line(x, y + 9, x, y + 12.5))
+    shape("tick", straight(x, y + 9, x, y + 12.5))
 }
 
 # ---- arrows
@@ -88,10 +90,10 @@ function arrow(how, x, y1, y2, said,    way, tip, neck) {
     tip = y2 - 5 * way
     neck = tip - 6 * way
     open_group(said)
-    shape("halo", line(x, y1, x, tip))
+    shape("halo", straight(x, y1, x, tip))
     shape("head", circle(x, y1, 1.8))
-    shape(pass_class[how], line(x, y1, x, neck))
-    if (how == "taken back") shape("core", line(x, y1, x, neck))
+    shape(pass_class[how], straight(x, y1, x, neck))
+    if (how == "taken back") shape("core", straight(x, y1, x, neck))
     shape(how == "handed" || how == "parked" ? "head" : "open", triangle(x, tip, way, 4.2, 8))
     close_group()
 }
@@ -102,8 +104,8 @@ function arrow(how, x, y1, y2, said,    way, tip, neck) {
 function over_mark(x, y1, y2, said,    way) {
     way = y2 > y1 ? 1 : -1
     open_group(said)
-    shape("over", line(x, y1, x, y2 + 1.5 * way) line(x - 6, y2, x + 6, y2))
-    shape("overcore", line(x, y1, x, y2) line(x - 4.5, y2, x + 4.5, y2))
+    shape("over", straight(x, y1, x, y2 + 1.5 * way) straight(x - 6, y2, x + 6, y2))
+    shape("overcore", straight(x, y1, x, y2) straight(x - 4.5, y2, x + 4.5, y2))
     close_group()
 }
 
@@ -128,7 +130,7 @@ function legend(left, right, y, cells,    k, order) {
         sample("entry", "", "enters", 16)
         sample("both", "", "joins and enters in one step", 16)
         sample("request", "", "interrupt request", 14)
-        sample("tick", "", "its event, a line of the log", 10)
+        sample("tick", "", "an event of this processor", 10)
         legend_break()
         for (k = 1; k <= PASSES; k++) sample("arrow", pass_named[k], "the lock is " pass_named[k], 14)
         legend_break()

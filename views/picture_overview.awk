@@ -15,6 +15,8 @@ function overview(    p, k) {
     strip_right = LEFT + SPAN
     per_cell = round_up((hi - lo + 1) / CELLS)
     if (per_cell > 10) per_cell = 5 * round_up(per_cell / 5)
+    # a few lines that are left over go to the last cell
+    cells_shown = int((hi - lo + 1) / per_cell + 0.75)
     lane_high = N <= 8 ? 44 : 30
     page_width = strip_right + RIGHT
     head(1)
@@ -27,6 +29,7 @@ function overview(    p, k) {
     frames("band", lane_high / 2 - 2)
     for (k = lo; k <= hi; k++) if (k in over_many) passing_entry(k)
     draw_flags(down, 6)
+    end_mark(N * lane_high)
     down = lanes_top + N * lane_high + 14
     number_rows()
     listed_overtakings()
@@ -34,7 +37,7 @@ function overview(    p, k) {
 
 function passing_entry(k,    n, y) {
     y = lane_y(at_who[k])
-    for (n = 1; n <= over_many[k]; n++) shape("thin", line(x_of(k), y, x_of(k), lane_y(join_who[over_join[k, n]])))
+    for (n = 1; n <= over_many[k]; n++) shape("thin", straight(x_of(k), y, x_of(k), lane_y(join_who[over_join[k, n]])))
     entry_mark(x_of(k), y, 6, "overentry", overtaking_words(k, N))
 }
 
@@ -44,11 +47,11 @@ function cell_from(c) {
 }
 
 function cell_to(c) {
-    return least(cell_from(c) + per_cell - 1, hi)
+    return c == cells_shown ? hi : cell_from(c) + per_cell - 1
 }
 
 function cell_of(k) {
-    return int((k - lo) / per_cell) + 1
+    return least(int((k - lo) / per_cell) + 1, cells_shown)
 }
 
 # ---- what the cells hold
@@ -77,26 +80,26 @@ function tally(what_kind, p, c) {
 
 # ---- lanes
 
-function scale(    k, every, bottom) {
+function scale(    k, n, every, bottom) {
     bottom = lanes_top + N * lane_high
     every = 10
-    while (every * col < 70) every *= every * col < 28 && every % 4 ? 5 : 2
+    for (n = 1; every * col < 60; n++) every *= n % 3 == 2 ? 2.5 : 2
     write_text("small", LEFT - 8, lanes_top - 6, "end", "line")
     for (k = lo; k <= hi; k++) {
         if (k % every > 0) continue
-        shape("edge", line(x_of(k), lanes_top - 4, x_of(k), bottom))
+        shape("edge", straight(x_of(k), lanes_top - 4, x_of(k), bottom))
         write_text("small", x_of(k), lanes_top - 6, "middle", k)
     }
-    shape("edge", line(LEFT, lanes_top, strip_right, lanes_top))
+    shape("edge", straight(LEFT, lanes_top, strip_right, lanes_top))
 }
 
 function share_lane(p,    c, y) {
     y = lane_y(p)
     lane_label(p, y)
     write_text("small", strip_right + 6, y + 3.5, "start", p)
-    shape("rest", line(LEFT, y + lane_high / 2 - 4, strip_right, y + lane_high / 2 - 4))
+    shape("rest", straight(LEFT, y + lane_high / 2 - 4, strip_right, y + lane_high / 2 - 4))
     add("<g class=\"cells\">")
-    for (c = 1; c <= cell_of(hi); c++) share_cell(p, c, y)
+    for (c = 1; c <= cells_shown; c++) share_cell(p, c, y)
     close_group()
 }
 
@@ -133,21 +136,23 @@ function number_rows(    i, c, n, rows_named, x) {
     split("joins entries interrupts", rows_named, " ")
     for (i = 1; i <= 3; i++) {
         write_text("", 12, down, "start", rows_named[i])
-        for (c = 1; c <= cell_of(hi); c++) {
+        for (c = 1; c <= cells_shown; c++) {
             n = tallied[rows_named[i], "all", c] + 0
             x = LEFT + (cell_from(c) + cell_to(c) + 1 - 2 * lo) / 2 * col
-            write_text("small", x, down, "middle", n, line_or_lines(cell_from(c), cell_to(c)) ": " n " " rows_named[i])
+            write_text(n > 0 ? "small" : "small pale", x, down, "middle", n, line_or_lines(cell_from(c), cell_to(c)) ": " n " " rows_named[i])
         }
         down += 14
     }
-    down += 6
+    down -= 8
 }
 
 # ---- the list below
 
-function listed_overtakings(    k, n, inside_part) {
-    write_text("", 12, down, "start", "A cell has " per_cell " lines of the log; the bars in it show how many of them the processor" \
-        " spent in each phase. --from and --to show a part line by line, up to " DETAIL " lines of it.")
+function listed_overtakings(    k, n) {
+    paragraph("", "A cell has " per_cell " lines of the log" (cell_to(cells_shown) == hi && \
+        hi - cell_from(cells_shown) + 1 != per_cell ? ", the last one " hi - cell_from(cells_shown) + 1 : "") \
+        "; the bars in it show how many of them the processor spent in each phase. --from and --to show a part line by line, " \
+        "up to " DETAIL " lines of it.", 11, 16, 0)
     for (k = lo; k <= hi; k++) {
         if (!(k in over_many)) continue
         if (++n > LISTED) continue

@@ -62,7 +62,7 @@ function box(x, y, w, h) {
     return "M" num(x) " " num(y) "h" num(w) "v" num(h) "h" num(-w) "z"
 }
 
-function line(x1, y1, x2, y2) {
+function straight(x1, y1, x2, y2) {
     if (y1 == y2) return "M" num(x1) " " num(y1) "H" num(x2)
     if (x1 == x2) return "M" num(x1) " " num(y1) "V" num(y2)
     return "M" num(x1) " " num(y1) "L" num(x2) " " num(y2)
@@ -115,12 +115,12 @@ function write_text(class, x, y, anchor, s, said) {
 # ---- the page
 
 # No role="img": it would hide the titles of the pieces from a screen reader.
-function print_svg(wide, high, name, description, style,    k) {
+function print_svg(wide, high, name, description, sheet,    k) {
     print "<svg xmlns=\"http://www.w3.org/2000/svg\" width=\"" num(wide) "\" height=\"" num(high) "\" viewBox=\"0 0 " num(wide) \
-        " " num(high) "\" role=\"graphics-document document\" aria-labelledby=\"name about\">"
+        " " num(high) "\" preserveAspectRatio=\"xMinYMin\" role=\"graphics-document document\" aria-labelledby=\"name about\">"
     print "<title id=\"name\">" safe(name) "</title>"
     print "<desc id=\"about\">" safe(description) "</desc>"
-    print style
+    print sheet
     print "<rect width=\"" num(wide) "\" height=\"" num(high) "\" fill=\"#fff\"/>"
     for (k = 1; k <= pieces; k++) print drawn[k]
     print "</svg>"
