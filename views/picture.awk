@@ -1,6 +1,7 @@
-# picture.awk: a log as one SVG: a lane for each processor, the lines of the log from left to right. `from` and `to` name a part.
-# A part of up to DETAIL lines is drawn line by line (picture_detail.awk), a longer one as an overview (picture_overview.awk).
-# In order: the part to show, what both kinds need of the run, the head of the page, a log without a run.
+# picture.awk: a log as one SVG: a lane for each processor, the lines of the log from left to right. `from` and `to`
+# name a part. Up to DETAIL lines are drawn line by line (picture_detail.awk), more as an overview (picture_overview.awk).
+# All is told from the log, and the picture says so. In order: the part to show, what both kinds need of the run, the
+# head of the page, a log without a run.
 
 BEGIN {
     read_log()
@@ -82,10 +83,10 @@ function picture_name(    s) {
     return edition_name[edition] ", N " N ": " s
 }
 
-function shown_words() {
-    return line_or_lines(lo, hi) (lo > 1 || hi < last ? " of " last : "") "; " \
-        (refused_at == "" ? "" : last > 1 ? many_of(events, "event", "events") " accepted, then line " refused_at " " : \
-        "line " refused_at " ") ending
+function shown_words(    s) {
+    s = line_or_lines(lo, hi) (lo > 1 || hi < last ? " of " last : "") "; "
+    if (refused_at != "") s = s many_of(events, "event", "events") " accepted, then line " refused_at " "
+    return s ending
 }
 
 function about() {
@@ -101,10 +102,11 @@ function interrupt_words(    j, passed, free, s) {
         if (join_passed[j] == 0) continue
         passed++
         if (interrupted(j, passer_entered[j, 1])) continue
-        if (++free <= 3) s = s (free == 1 ? "" : "; ") "processor " join_who[j] " (joined " join_line[j] "), " at_most_passers(j)
+        if (++free > 3) continue
+        s = s (free == 1 ? "" : "; ") "processor " join_who[j] " (joined " join_line[j] "), " at_most_passers(j)
     }
     if (passed == 0) return ""
-    if (passed == 1) return free ? "It had taken no interrupt before." : "It had taken an interrupt before."
+    if (passed == 1) return "It had taken " (free ? "no" : "an") " interrupt before."
     if (free == 0) return "Each of them had taken an interrupt before."
     return "Without an interrupt before: " s (free > 3 ? "; and " free - 3 " more." : ".")
 }

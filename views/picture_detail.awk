@@ -1,5 +1,5 @@
-# picture_detail.awk: a part of a log line by line, in strips one below the other. What happens at line k is at x_of(k); the phase
-# that it leads to lasts until the processor's next event. In order: the strips, axis and lanes, what happens.
+# picture_detail.awk: a part of a log line by line, in strips one below the other. What happens at line k is at x_of(k);
+# the phase that it leads to lasts until the processor's next event. In order: strips, axis and lanes, what happens.
 
 BEGIN {
     STRIP = 80
@@ -98,11 +98,17 @@ function happening(k,    x, y, said) {
     shape("hover", box(x - col / 2, y - lane_high / 2, col, lane_high))
     event_tick(x, y)
     close_group()
-    if (at_act[k] == "raise")
-        request_mark(x, y, "line " k ": interrupt request for processor " at_who[k] (at_note[k] == "" ? "" : ", " at_note[k]))
+    if (at_act[k] == "raise") request_mark(x, y, request_words(k))
     if (at_pass[k] != "") arrow(at_pass[k], x, lane_y(at_giver[k]), lane_y(at_taker[k]), said)
-    if (is_join(k)) join_mark(x, y, said)
-    if (is_entry(k)) entry_mark(x, y, 5.5, "entry", said)
+    if (!is_join(k) && !is_entry(k)) return
+    open_group(said)
+    if (is_join(k)) join_mark(x, y)
+    if (is_entry(k)) entry_mark(x, y, 5.5, "entry")
+    close_group()
+}
+
+function request_words(k) {
+    return "line " k ": interrupt request for processor " at_who[k] (at_note[k] == "" ? "" : ", " at_note[k])
 }
 
 function overtaking(k,    n, x, y) {

@@ -1,5 +1,5 @@
-# picture_flags.awk: overtakings as both kinds of a picture show them: their words, the frames on the lanes of those passed over,
-# and flags, the words above the lanes with a line down to the entry. In order: those three.
+# picture_flags.awk: overtakings as both kinds of a picture show them: their words, the frames on the lanes of those
+# passed over, and flags, the words above the lanes with a line down to the entry. In order: those three.
 
 BEGIN {
     FLAG_ROWS = 5
@@ -39,7 +39,7 @@ function interrupted(j, k) {
 
 # ---- frames
 
-# From the join to the last entry that passes it over; `paint` is blush for the ground and band for the line around it.
+# From the join to the last entry that passes it over; `paint` is blush for the ground, band for the line around it.
 function frames(paint, half,    j, x1, x2, y) {
     for (j = 1; j <= joins; j++) {
         if (join_passed[j] == 0 || join_line[j] > strip_hi || join_last_passed[j] < strip_lo) continue
@@ -61,19 +61,23 @@ function frame_words(j) {
 
 # ---- flags
 
-# From right to left, as a flag can stand above those that begin to its right without its line crossing them. Where no row is
-# left for it, an overtaking has only its title.
+# From right to left, as a flag can stand above those that begin to its right without its line crossing them. Where
+# there is no room for its words it has a few of them, and else the mark alone has them.
 function place_flags(named_most, short,    k, f) {
     flags = flag_rows = flags_left_out = 0
     for (k = strip_hi; k >= strip_lo; k--) {
         if (!(k in over_many)) continue
         f = flags + 1
         flag_line[f] = k
-        flag_words[f] = overtaking_words(k, named_most, short)
-        if (find_room(f, x_of(k), text_width(flag_words[f], 11, 1) + 6)) flags = f
+        if (flag_with(f, k, named_most, short) || flag_with(f, k, named_most, 1)) flags = f
         else flags_left_out++
     }
     close_rows()
+}
+
+function flag_with(f, k, named_most, short) {
+    flag_words[f] = overtaking_words(k, named_most, short)
+    return find_room(f, x_of(k), text_width(flag_words[f], 11, 1) + 6)
 }
 
 # A flag begins at its line, in the lowest row that is free; or it ends there, in the highest.

@@ -1,5 +1,5 @@
-# picture_marks.awk: how each thing looks in a picture, and the legend that shows the same. In order: the style, phases, marks,
-# arrows, overtakings, the legend.
+# picture_marks.awk: how each thing looks in a picture, and the legend that shows the same. In order: the style,
+# phases, marks, arrows, overtakings, the legend.
 #
 # Everything differs by shape or pattern, so that a print in black and white says the same; colour only helps.
 
@@ -20,32 +20,33 @@ function style(wide) {
         "@media print{svg{width:100vw;height:100vh}}\n" \
         "text{font-family:sans-serif;font-size:11px;fill:#111}\n" \
         ".big{font-size:16px;font-weight:bold}.small{font-size:9.5px}.pale{fill:#888}.lane{font-weight:bold}\n" \
-        ".flag{font-weight:bold;fill:#b00000}\n" \
-        "path{fill:none}\n" \
-        ".hover{fill:#fff;fill-opacity:0}.paper{fill:#fff}\n" \
-        ".cells path{stroke-width:0.5}.grid{stroke:#ddd}.edge{stroke:#999}.tick{stroke:#444;stroke-width:1.2}.end{stroke:#111;stroke-width:4}\n" \
-        ".rest{stroke:#999}.way{stroke:#333;stroke-width:2;stroke-dasharray:4 3}\n" \
+        ".flag{font-weight:bold;fill:#b00000}.within{font-size:8px;font-weight:bold;fill:#fff}\n" \
+        "path{fill:none}.hover{fill:#fff;fill-opacity:0}\n" \
+        ".grid{stroke:#ddd}.edge{stroke:#999}.tick{stroke:#444;stroke-width:1.2}.end{stroke:#111;stroke-width:4}\n" \
+        ".rest{stroke:#999}.way{stroke:#333;stroke-width:2;stroke-dasharray:4 3}.rules{fill:url(#rules);stroke:#777}\n" \
         ".waiting{fill:#f3d98b;stroke:#444}.inside{fill:#17324d;stroke:#17324d}\n" \
-        ".rules{fill:url(#rules);stroke:#777}.service{fill:url(#dots);stroke:#333;stroke-dasharray:3 2}\n" \
-        ".handing{fill:url(#hatch);stroke:#333}\n" \
-        ".join{fill:#fff;stroke:#111;stroke-width:1.6}.entry{fill:#111;stroke:#fff}\n" \
-        ".request{fill:#fff;stroke:#111}\n" \
+        ".service{fill:url(#dots);stroke:#333;stroke-dasharray:3 2}.handing{fill:url(#hatch);stroke:#333}\n" \
+        ".cells path{stroke-width:0.5}\n" \
+        ".join{fill:#fff;stroke:#111;stroke-width:1.6}.entry{fill:#111;stroke:#fff}.request{fill:#fff;stroke:#111}\n" \
         ".halo{stroke:#fff;stroke-width:5}.handed{stroke:#111;stroke-width:2}\n" \
         ".parked{stroke:#111;stroke-width:2;stroke-dasharray:5 3}\n" \
         ".claimed{stroke:#111;stroke-width:2.4;stroke-dasharray:0.1 4;stroke-linecap:round}\n" \
         ".back{stroke:#111;stroke-width:4.4}.core{stroke:#fff;stroke-width:1.8}\n" \
         ".head{fill:#111;stroke:#111}.open{fill:#fff;stroke:#111;stroke-width:1.4}\n" \
-        ".band{stroke:#c00000;stroke-width:2.6}.broken{stroke-dasharray:7 4}.blush{fill:#fdeaea}\n" \
+        ".blush{fill:#fdeaea}.band{stroke:#c00000;stroke-width:2.6}.broken{stroke-dasharray:7 4}\n" \
         ".over{stroke:#111;stroke-width:6}.overcore{stroke:#e00000;stroke-width:2.8}\n" \
-        ".overentry{fill:#e00000;stroke:#111;stroke-width:2}.thin{stroke:#c00000;stroke-width:1.6}.lead{stroke:#c00000;stroke-dasharray:2 2}\n" \
+        ".overentry{fill:#e00000;stroke:#111;stroke-width:2}\n" \
+        ".thin{stroke:#c00000;stroke-width:1.6}.lead{stroke:#c00000;stroke-dasharray:2 2}\n" \
         "</style>\n<defs>\n" \
-        "<pattern id=\"hatch\" width=\"5\" height=\"5\" patternUnits=\"userSpaceOnUse\"><rect width=\"5\" height=\"5\" " \
-        "fill=\"#fff\"/><path d=\"M-1 1l2-2M0 5l5-5M4 6l2-2\" stroke=\"#33556e\" stroke-width=\"1.4\"/></pattern>\n" \
-        "<pattern id=\"dots\" width=\"5\" height=\"5\" patternUnits=\"userSpaceOnUse\"><rect width=\"5\" height=\"5\" " \
-        "fill=\"#fff\"/><circle cx=\"2.5\" cy=\"2.5\" r=\"0.8\" fill=\"#333\"/></pattern>\n" \
-        "<pattern id=\"rules\" width=\"4\" height=\"4\" patternUnits=\"userSpaceOnUse\"><rect width=\"4\" height=\"4\" " \
-        "fill=\"#fff\"/><path d=\"M0 2h4\" stroke=\"#777\" stroke-width=\"0.8\"/></pattern>\n" \
+        pattern("hatch", 5, "<path d=\"M-1 1l2-2M0 5l5-5M4 6l2-2\" stroke=\"#33556e\" stroke-width=\"1.4\"/>") \
+        pattern("dots", 5, "<circle cx=\"2.5\" cy=\"2.5\" r=\"0.8\" fill=\"#333\"/>") \
+        pattern("rules", 4, "<path d=\"M0 2h4\" stroke=\"#777\" stroke-width=\"0.8\"/>") \
         "</defs>"
+}
+
+function pattern(id, side, ink,    square) {
+    square = " width=\"" side "\" height=\"" side "\""
+    return "<pattern id=\"" id "\"" square " patternUnits=\"userSpaceOnUse\"><rect" square " fill=\"#fff\"/>" ink "</pattern>\n"
 }
 
 # ---- phases
@@ -84,7 +85,7 @@ function event_tick(x, y) {
 
 # ---- arrows
 
-# The lock goes from the lane at y1 to the lane at y2. What the giver does has a filled head, what the taker does an open one.
+# The lock goes from the lane at y1 to the lane at y2. The head is filled where the giver acts, open where the taker does.
 function arrow(how, x, y1, y2, said,    way, tip, neck) {
     way = y2 > y1 ? 1 : -1
     tip = y2 - 5 * way
@@ -110,9 +111,14 @@ function over_mark(x, y1, y2, said,    way) {
 }
 
 # Around the lane of the waiter; open where the stretch goes on beyond what is shown.
-function band(x1, x2, y, half, starts, ends, broken, said) {
-    shape(broken ? "band broken" : "band", "M" num(x1) " " num(y - half) "H" num(x2) (ends ? "v" : "m0 ") num(2 * half) \
-        "H" num(x1) (starts ? "z" : ""), said)
+function band(x1, x2, y, half, starts, ends, broken, said,    up, foot, data) {
+    up = y - half
+    foot = y + half
+    if (starts && ends) data = box(x1, up, x2 - x1, 2 * half)
+    else if (starts) data = straight(x2, up, x1, up) "V" num(foot) "H" num(x2)
+    else if (ends) data = straight(x1, up, x2, up) "V" num(foot) "H" num(x1)
+    else data = straight(x1, up, x2, up) straight(x1, foot, x2, foot)
+    shape(broken ? "band broken" : "band", data, said)
 }
 
 # ---- the legend
@@ -135,7 +141,7 @@ function legend(left, right, y, cells,    k, order) {
         for (k = 1; k <= PASSES; k++) sample("arrow", pass_named[k], "the lock is " pass_named[k], 14)
         legend_break()
     }
-    sample("overentry", "", "enters and overtakes", 18)
+    sample("overentry", "", "enters and overtakes" (cells ? " (a number: so many times in the cell)" : ""), 18)
     sample("frame", "", "is passed over, from its join on", 32)
     sample("broken", "", "the same, but it had taken an interrupt", 32)
     return legend_y + 18

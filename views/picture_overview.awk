@@ -1,5 +1,6 @@
-# picture_overview.awk: a long part of a log on one page. The lines are cut into cells; each lane shows in each cell how many of
-# the cell's lines its processor spent in each phase. In order: the page, what the cells hold, lanes, numbers, the list below.
+# picture_overview.awk: a long part of a log on one page. The lines are cut into cells; each lane shows in each cell
+# how many of its lines the processor spent in each phase. In order: the page, what the cells hold, lanes, overtakings,
+# numbers, the list.
 
 BEGIN {
     CELLS = 61
@@ -8,7 +9,7 @@ BEGIN {
 
 # ---- the page
 
-function overview(    p, k) {
+function overview(    p) {
     strip_lo = lo
     strip_hi = hi
     col = SPAN / (hi - lo + 1)
@@ -27,18 +28,12 @@ function overview(    p, k) {
     scale()
     for (p = 0; p < N; p++) share_lane(p)
     frames("band", lane_high / 2 - 2)
-    for (k = lo; k <= hi; k++) if (k in over_many) passing_entry(k)
+    for (p = 0; p < N; p++) passing_entries(p)
     draw_flags(down, 6)
     end_mark(N * lane_high)
     down = lanes_top + N * lane_high + 14
     number_rows()
     listed_overtakings()
-}
-
-function passing_entry(k,    n, y) {
-    y = lane_y(at_who[k])
-    for (n = 1; n <= over_many[k]; n++) shape("thin", straight(x_of(k), y, x_of(k), lane_y(join_who[over_join[k, n]])))
-    entry_mark(x_of(k), y, 6, "overentry", overtaking_words(k, N))
 }
 
 # The lines of cell c.
@@ -48,6 +43,10 @@ function cell_from(c) {
 
 function cell_to(c) {
     return c == cells_shown ? hi : cell_from(c) + per_cell - 1
+}
+
+function cell_middle(c) {
+    return (x_of(cell_from(c)) + x_of(cell_to(c))) / 2
 }
 
 function cell_of(k) {
@@ -73,9 +72,9 @@ function fill_cells(    p, i, c, a, b, k) {
     }
 }
 
-function tally(what_kind, p, c) {
-    tallied[what_kind, p, c]++
-    tallied[what_kind, "all", c]++
+function tally(kind, p, c) {
+    tallied[kind, p, c]++
+    tallied[kind, "all", c]++
 }
 
 # ---- lanes
@@ -126,33 +125,61 @@ function share_words(p, c,    i, s, n) {
         if (n > 0) s = s (s == "" ? "" : ", ") phase_named[i] " " n
     }
     return "processor " p ", " line_or_lines(cell_from(c), cell_to(c)) ": " s "; " \
-        many_of(tallied["joins", p, c] + 0, "join", "joins") ", " many_of(tallied["entries", p, c] + 0, "entry", "entries") ", " \
+        many_of(tallied["joins", p, c] + 0, "join", "joins") ", " \
+        many_of(tallied["entries", p, c] + 0, "entry", "entries") ", " \
         many_of(tallied["interrupts", p, c] + 0, "interrupt", "interrupts")
+}
+
+# ---- overtakings
+
+# One mark for all entries of processor p in a cell that overtake, as they would hide each other.
+function passing_entries(p,    c) {
+    for (c = 1; c <= cells_shown; c++) passing_mark(p, c)
+}
+
+function passing_mark(p, c,    k, n, i, x, first, lanes) {
+    for (k = cell_from(c); k <= cell_to(c); k++) {
+        if (!(k in over_many) || at_who[k] != p) continue
+        if (++n == 1) first = k
+        for (i = 1; i <= over_many[k]; i++) lanes[join_who[over_join[k, i]]] = 1
+    }
+    if (n == 0) return
+    x = n == 1 ? x_of(first) : cell_middle(c)
+    for (i = 0; i < N; i++) if (i in lanes) shape("thin", straight(x, lane_y(p), x, lane_y(i)))
+    entry_mark(x, lane_y(p), n == 1 ? 6 : 8.5, "overentry", overtaking_words(first, N) \
+        (n == 1 ? "" : "; and " many_of(n - 1, "more entry", "more entries") " up to line " cell_to(c)))
+    if (n > 1) write_text("within", x, lane_y(p) + 3, "middle", n)
 }
 
 # ---- numbers
 
-function number_rows(    i, c, n, rows_named, x) {
+function number_rows(    i, c, rows_named) {
     split("joins entries interrupts", rows_named, " ")
     for (i = 1; i <= 3; i++) {
         write_text("", 12, down, "start", rows_named[i])
-        for (c = 1; c <= cells_shown; c++) {
-            n = tallied[rows_named[i], "all", c] + 0
-            x = LEFT + (cell_from(c) + cell_to(c) + 1 - 2 * lo) / 2 * col
-            write_text(n > 0 ? "small" : "small pale", x, down, "middle", n, line_or_lines(cell_from(c), cell_to(c)) ": " n " " rows_named[i])
-        }
+        for (c = 1; c <= cells_shown; c++) number_of(rows_named[i], c)
         down += 14
     }
     down -= 8
 }
 
-# ---- the list below
+function number_of(kind, c,    n) {
+    n = tallied[kind, "all", c] + 0
+    write_text(n > 0 ? "small" : "small pale", cell_middle(c), down, "middle", n,
+        line_or_lines(cell_from(c), cell_to(c)) ": " kind " " n)
+}
+
+# ---- the list
+
+function cell_words(    left_over) {
+    left_over = hi - cell_from(cells_shown) + 1
+    return "A cell has " per_cell " lines of the log" (left_over == per_cell ? "" : ", the last one " left_over) \
+        "; the bars in it show how many of them the processor spent in each phase. --from and --to show a part line " \
+        "by line, up to " DETAIL " lines of it."
+}
 
 function listed_overtakings(    k, n) {
-    paragraph("", "A cell has " per_cell " lines of the log" (cell_to(cells_shown) == hi && \
-        hi - cell_from(cells_shown) + 1 != per_cell ? ", the last one " hi - cell_from(cells_shown) + 1 : "") \
-        "; the bars in it show how many of them the processor spent in each phase. --from and --to show a part line by line, " \
-        "up to " DETAIL " lines of it.", 11, 16, 0)
+    paragraph("", cell_words(), 11, 16, 0)
     for (k = lo; k <= hi; k++) {
         if (!(k in over_many)) continue
         if (++n > LISTED) continue

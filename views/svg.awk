@@ -1,5 +1,5 @@
-# svg.awk: what a picture is made of. Pieces are collected by add() and printed by print_svg(), as the height of a page is known
-# only at its end. In order: numbers and text, shapes as path data, pieces with a <title>, the page.
+# svg.awk: what a picture is made of. Pieces are collected by add() and printed by print_svg(), as the height of a page
+# is known only at its end. In order: numbers and text, shapes as path data, pieces with a <title>, the page.
 #
 # All coordinates go through num(), so that the same log gives the same bytes whatever awk prints it.
 
@@ -34,7 +34,7 @@ function round_up(x) {
     return x > int(x) ? int(x) + 1 : int(x)
 }
 
-# No font is known here; of those in use for sans-serif the widest has, in these texts, so much of its size for a letter.
+# No font is known here; of those in use for sans-serif the widest has so much of its size for a letter of these texts.
 function text_width(s, points, bold) {
     return length(s) * points * (bold ? 0.59 : 0.53)
 }
@@ -108,20 +108,23 @@ function close_group() {
 
 # `anchor` is start, middle or end.
 function write_text(class, x, y, anchor, s, said) {
-    add("<text class=\"" class "\" x=\"" num(x) "\" y=\"" num(y) "\"" (anchor == "start" ? "" : " text-anchor=\"" anchor "\"") \
-        ">" titled(said) safe(s) "</text>")
+    add("<text class=\"" class "\" x=\"" num(x) "\" y=\"" num(y) "\"" \
+        (anchor == "start" ? "" : " text-anchor=\"" anchor "\"") ">" titled(said) safe(s) "</text>")
 }
 
 # ---- the page
 
-# No role="img": it would hide the titles of the pieces from a screen reader.
+# The role is not img, which would hide the titles of the pieces from a screen reader.
 function print_svg(wide, high, name, description, sheet,    k) {
-    print "<svg xmlns=\"http://www.w3.org/2000/svg\" width=\"" num(wide) "\" height=\"" num(high) "\" viewBox=\"0 0 " num(wide) \
-        " " num(high) "\" preserveAspectRatio=\"xMinYMin\" role=\"graphics-document document\" aria-labelledby=\"name about\">"
+    wide = num(wide)
+    high = num(high)
+    print "<svg xmlns=\"http://www.w3.org/2000/svg\" width=\"" wide "\" height=\"" high "\" viewBox=\"0 0 " \
+        wide " " high "\" preserveAspectRatio=\"xMinYMin\" role=\"graphics-document document\" " \
+        "aria-labelledby=\"name\" aria-describedby=\"about\">"
     print "<title id=\"name\">" safe(name) "</title>"
     print "<desc id=\"about\">" safe(description) "</desc>"
     print sheet
-    print "<rect width=\"" num(wide) "\" height=\"" num(high) "\" fill=\"#fff\"/>"
+    print "<rect width=\"" wide "\" height=\"" high "\" fill=\"#fff\"/>"
     for (k = 1; k <= pieces; k++) print drawn[k]
     print "</svg>"
 }
