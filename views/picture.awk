@@ -1,7 +1,7 @@
 # picture.awk: a log as one SVG: a lane for each processor, the lines of the log from left to right. `from` and `to`
-# name a part. Up to DETAIL lines are drawn line by line (picture_detail.awk), more as an overview (picture_overview.awk).
-# All is told from the log, and the picture says so. In order: the part to show, what both kinds need of the run, the
-# head of the page, a log without a run.
+# name a part. Up to DETAIL lines are drawn line by line (picture_detail.awk), more as an overview
+# (picture_overview.awk). All is told from the log, and the picture says so. In order: the part to show, what both
+# kinds need of the run, the head of the page, a log without a run.
 
 BEGIN {
     read_log()

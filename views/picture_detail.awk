@@ -1,11 +1,11 @@
-# picture_detail.awk: a part of a log line by line, in strips one below the other. What happens at line k is at x_of(k);
-# the phase that it leads to lasts until the processor's next event. In order: strips, axis and lanes, what happens.
+# picture_detail.awk: a part of a log line by line, in strips below each other. What happens at line k is at x_of(k),
+# and the phase that it leads to lasts until the processor's next event. In order: strips, axis and lanes, events.
 
 BEGIN {
     STRIP = 80
 }
 
-# ---- the strips
+# ---- strips
 
 function detail(    shown, strips, per, a) {
     shown = hi - lo + 1
@@ -80,7 +80,7 @@ function lane(p,    i, y, x1, x2) {
     }
 }
 
-# ---- what happens
+# ---- events
 
 # Line k as a log in words has it.
 function line_words(k,    s) {

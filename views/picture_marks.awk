@@ -23,8 +23,8 @@ function style(wide) {
         ".flag{font-weight:bold;fill:#b00000}.within{font-size:8px;font-weight:bold;fill:#fff}\n" \
         "path{fill:none}.hover{fill:#fff;fill-opacity:0}\n" \
         ".grid{stroke:#ddd}.edge{stroke:#999}.tick{stroke:#444;stroke-width:1.2}.end{stroke:#111;stroke-width:4}\n" \
-        ".rest{stroke:#999}.way{stroke:#333;stroke-width:2;stroke-dasharray:4 3}.rules{fill:url(#rules);stroke:#777}\n" \
-        ".waiting{fill:#f3d98b;stroke:#444}.inside{fill:#17324d;stroke:#17324d}\n" \
+        ".rest{stroke:#999}.way{stroke:#333;stroke-width:2;stroke-dasharray:4 3}\n" \
+        ".rules{fill:url(#rules);stroke:#777}.waiting{fill:#f0d27c;stroke:#444}.inside{fill:#17324d}\n" \
         ".service{fill:url(#dots);stroke:#333;stroke-dasharray:3 2}.handing{fill:url(#hatch);stroke:#333}\n" \
         ".cells path{stroke-width:0.5}\n" \
         ".join{fill:#fff;stroke:#111;stroke-width:1.6}.entry{fill:#111;stroke:#fff}.request{fill:#fff;stroke:#111}\n" \
@@ -38,7 +38,7 @@ function style(wide) {
         ".overentry{fill:#e00000;stroke:#111;stroke-width:2}\n" \
         ".thin{stroke:#c00000;stroke-width:1.6}.lead{stroke:#c00000;stroke-dasharray:2 2}\n" \
         "</style>\n<defs>\n" \
-        pattern("hatch", 5, "<path d=\"M-1 1l2-2M0 5l5-5M4 6l2-2\" stroke=\"#33556e\" stroke-width=\"1.4\"/>") \
+        pattern("hatch", 6, "<path d=\"M-1 1l2-2M0 6l6-6M5 7l2-2\" stroke=\"#24455f\" stroke-width=\"2\"/>") \
         pattern("dots", 5, "<circle cx=\"2.5\" cy=\"2.5\" r=\"0.8\" fill=\"#333\"/>") \
         pattern("rules", 4, "<path d=\"M0 2h4\" stroke=\"#777\" stroke-width=\"0.8\"/>") \
         "</defs>"
@@ -46,7 +46,8 @@ function style(wide) {
 
 function pattern(id, side, ink,    square) {
     square = " width=\"" side "\" height=\"" side "\""
-    return "<pattern id=\"" id "\"" square " patternUnits=\"userSpaceOnUse\"><rect" square " fill=\"#fff\"/>" ink "</pattern>\n"
+    return "<pattern id=\"" id "\"" square " patternUnits=\"userSpaceOnUse\"><rect" square " fill=\"#fff\"/>" ink \
+        "</pattern>\n"
 }
 
 # ---- phases
@@ -85,7 +86,7 @@ function event_tick(x, y) {
 
 # ---- arrows
 
-# The lock goes from the lane at y1 to the lane at y2. The head is filled where the giver acts, open where the taker does.
+# The lock goes from the lane at y1 to that at y2. The head is filled where the giver acts, open where the taker does.
 function arrow(how, x, y1, y2, said,    way, tip, neck) {
     way = y2 > y1 ? 1 : -1
     tip = y2 - 5 * way

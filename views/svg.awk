@@ -108,7 +108,7 @@ function close_group() {
 
 # `anchor` is start, middle or end.
 function write_text(class, x, y, anchor, s, said) {
-    add("<text class=\"" class "\" x=\"" num(x) "\" y=\"" num(y) "\"" \
+    add("<text" (class == "" ? "" : " class=\"" class "\"") " x=\"" num(x) "\" y=\"" num(y) "\"" \
         (anchor == "start" ? "" : " text-anchor=\"" anchor "\"") ">" titled(said) safe(s) "</text>")
 }
 
