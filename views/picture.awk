@@ -108,7 +108,7 @@ function interrupt_words(    j, passed, free, s) {
     if (passed == 0) return ""
     if (passed == 1) return "It had taken " (free ? "no" : "an") " interrupt before."
     if (free == 0) return "Each of them had taken an interrupt before."
-    return "Without an interrupt before: " s (free > 3 ? "; and " free - 3 " more." : ".")
+    return "Those that had taken no interrupt before: " s (free > 3 ? "; and " free - 3 " more." : ".")
 }
 
 function at_most_passers(j) {
