@@ -114,7 +114,7 @@ function write_text(class, x, y, anchor, s, said) {
 
 # ---- the page
 
-# The role is not img, which would hide the titles of the pieces from a screen reader.
+# The role is not img: of an img, by ARIA's rules, a screen reader need not tell the parts.
 function print_svg(wide, high, name, description, sheet,    k) {
     wide = num(wide)
     high = num(high)
