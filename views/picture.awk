@@ -22,14 +22,11 @@ BEGIN {
 
 # ---- the part to show
 
-function choose_part(    named_part, events_at) {
-    lo = from == "" ? 1 : most_of(from + 0, 1)
-    hi = to == "" ? last : least(to + 0, last)
-    if (lo <= hi) return
-    named_part = from == "" ? "lines up to " to : to == "" ? "lines from " from " on" : "lines " from " to " to
-    events_at = events == 0 ? "which has no events" : "whose events are at lines 2 to " last
-    print "lockbench: " named_part " are no part of this log, " events_at > "/dev/stderr"
-    exit 1
+# The header has a column of its own where the part begins with it.
+function choose_part() {
+    take_part()
+    lo = from + 0 < 2 ? 1 : first_shown
+    hi = last_shown
 }
 
 # ---- what both kinds need of the run

@@ -1,7 +1,7 @@
 # table.awk: document 01's places and its step table, as the views know them. In order: names and phases, a step as a list
 # of writes, the acts of each phase.
 #
-# now[CELL, p] is a cell of processor p's row as the run has it; now["L", LOCK] is L. A step writes nothing at once: put()
+# now[NAME, p] is a cell of processor p's row as the run has it; now["L", LOCK] is L. A step writes nothing at once: put()
 # notes what it would write, so that a line of the log can first be held against it. `did` says what the step does.
 
 BEGIN {
@@ -39,22 +39,22 @@ function phase_of(k) {
 
 # ---- a step as a list of writes
 
-function put(cell, q, value) {
+function put(name, q, value) {
     writes++
-    put_cell[writes] = cell
+    put_name[writes] = name
     put_row[writes] = q
     put_value[writes] = value
 }
 
 # A cell as it is after the writes noted so far.
-function after(cell, q,    k) {
+function after(name, q,    k) {
     for (k = writes; k >= 1; k--)
-        if (put_cell[k] == cell && put_row[k] == q) return put_value[k]
-    return now[cell, q]
+        if (put_name[k] == name && put_row[k] == q) return put_value[k]
+    return now[name, q]
 }
 
 function carry_out(    k) {
-    for (k = 1; k <= writes; k++) now[put_cell[k], put_row[k]] = put_value[k]
+    for (k = 1; k <= writes; k++) now[put_name[k], put_row[k]] = put_value[k]
 }
 
 # The step of processor p.
@@ -75,9 +75,9 @@ function raise(p) {
     put("flag", p, 1)
 }
 
-function go(p, to, note) {
+function go(p, to, words) {
     put("place", p, to)
-    did = note
+    did = words
 }
 
 # The lock goes from one to another; the picture draws it.
@@ -187,13 +187,13 @@ function peek(p, behind, second) {
 }
 
 # To place 22 with that nx. The drawn edition has no place 22 and makes its choice in the same step.
-function lift_next(p, second, note) {
+function lift_next(p, second, words) {
     put("nx", p, second)
-    if (edition == DRAWN) on_or_out(p, second, note)
-    else go(p, LIFT, note)
+    if (edition == DRAWN) on_or_out(p, second, words)
+    else go(p, LIFT, words)
 }
 
-function on_or_out(p, second, note) {
-    if (second == NONE) go(p, REST, note)
-    else { put("succ", p, second); go(p, HAND, note) }
+function on_or_out(p, second, words) {
+    if (second == NONE) go(p, REST, words)
+    else { put("succ", p, second); go(p, HAND, words) }
 }

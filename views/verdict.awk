@@ -78,5 +78,5 @@ function summary(    j, many, who) {
             many++
             who = "processor " join_who[j] " was passed over " passers(j, " and ", "by ")
         }
-    return many == 1 ? who : many " joins were passed over, by " overtakings " entries"
+    return many == 1 ? who : many " joins were passed over, in " overtakings " overtakings"
 }
