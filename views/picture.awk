@@ -58,19 +58,6 @@ function many_of(n, one, several) {
     return n " " (n == 1 ? one : several)
 }
 
-# An entry or a join: a step that ends inside, and the swap.
-function is_entry(k) {
-    return at_act[k] != "raise" && at_from[k] != INSIDE && at_to[k] == INSIDE
-}
-
-function is_join(k) {
-    return at_act[k] != "raise" && at_from[k] == SWAP
-}
-
-function is_interrupt(k) {
-    return at_from[k] == POLL && at_to[k] == SERVICE
-}
-
 # ---- the head of the page
 
 function picture_name(    s) {

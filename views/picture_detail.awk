@@ -100,10 +100,10 @@ function happening(k,    x, y, said) {
     close_group()
     if (at_act[k] == "raise") request_mark(x, y, request_words(k))
     if (at_pass[k] != "") arrow(at_pass[k], x, lane_y(at_giver[k]), lane_y(at_taker[k]), said)
-    if (!is_join(k) && !is_entry(k)) return
+    if (!(k in at_join) && !(k in at_entry)) return
     open_group(said)
-    if (is_join(k)) join_mark(x, y)
-    if (is_entry(k)) entry_mark(x, y, 5.5, "entry")
+    if (k in at_join) join_mark(x, y)
+    if (k in at_entry) entry_mark(x, y, 5.5, "entry")
     close_group()
 }
 

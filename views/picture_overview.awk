@@ -66,9 +66,9 @@ function fill_cells(    p, i, c, a, b, k) {
         }
     for (k = lo; k <= hi; k++) {
         if (!(k in at_who)) continue
-        if (is_join(k)) tally("joins", at_who[k], cell_of(k))
-        if (is_entry(k)) tally("entries", at_who[k], cell_of(k))
-        if (is_interrupt(k)) tally("interrupts", at_who[k], cell_of(k))
+        if (k in at_join) tally("joins", at_who[k], cell_of(k))
+        if (k in at_entry) tally("entries", at_who[k], cell_of(k))
+        if (k in at_interrupt) tally("interrupts", at_who[k], cell_of(k))
     }
 }
 

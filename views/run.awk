@@ -1,9 +1,10 @@
 # run.awk: what a replayed log shows of the queue: joins, entries, interrupts taken, who waits, and who was passed over. The
 # words are those of docs/RANDOM.md, 'The verdict in numbers'.
 #
-# What is left of join j, from 1 to joins: join_who, join_line; join_end (entered, again or open) and join_end_line; join_waited,
-# the entries of others in its stretch; join_interrupt, the line of the first interrupt taken in it, or 0; join_passed, the number
-# of overtakings, and of each of them, i from 1: passer_who[j, i], passer_joined[j, i], passer_entered[j, i].
+# What is left of line k: at_queue, and whether k is in at_join, at_entry, at_interrupt. Of join j, from 1 to joins: join_who and
+# join_line; join_end (entered, again or open) and join_end_line; join_waited, the entries of others in its stretch;
+# join_interrupt, the line of the first interrupt taken in it, or 0; join_passed, the number of overtakings, and of each of them,
+# i from 1: passer_who[j, i], passer_joined[j, i], passer_entered[j, i].
 
 BEGIN {
     joins = entries = interrupts = overtakings = standing = 0
@@ -20,6 +21,7 @@ function follow(p, from, stepped) {
 function join(p) {
     close_stretch(p, "again")
     joins++
+    at_join[number] = 1
     join_who[joins] = p
     join_line[joins] = latest[p] = number
     join_end[joins] = "open"
@@ -37,11 +39,13 @@ function close_stretch(p, how) {
 
 function interrupt(p) {
     interrupts++
+    at_interrupt[number] = 1
     if (join_interrupt[open[p]] == 0) join_interrupt[open[p]] = number
 }
 
 function enter(p,    q, j, passed_over) {
     entries++
+    at_entry[number] = 1
     close_stretch(p, "entered")
     for (q = 0; q < N; q++) {
         if (!(q in open)) continue
