@@ -1,4 +1,5 @@
-# columns.awk: a table whose columns are as wide as they need to be. cell() fills it, print_table() prints it and empties it.
+# columns.awk: a table whose columns are as wide as they need to be. cell() fills it, print_table() prints it and
+# empties it.
 
 function cell(text) {
     columns++
@@ -12,12 +13,14 @@ function next_row() {
 }
 
 # `align` has a letter for each column: r right, l left.
-function print_table(align,    r, c, line, most) {
+function print_table(align,    r, c, side, line, most) {
     most = length(align)
     for (r = 1; r <= rows; r++) {
         line = ""
-        for (c = 1; c <= most; c++)
-            line = line sprintf("%" (substr(align, c, 1) == "r" ? "" : "-") width[c] "s%s", entry_of[r, c], c < most ? "  " : "")
+        for (c = 1; c <= most; c++) {
+            side = substr(align, c, 1) == "r" ? "" : "-"
+            line = line sprintf("%" side width[c] "s  ", entry_of[r, c])
+        }
         sub(/ +$/, "", line)
         print line
     }

@@ -1,10 +1,12 @@
-# hex.awk: a schedule in words, such as schedules/back_in_time.steps, to the schedule in hexadecimal. The words, line by line:
+# hex.awk: a schedule in words, such as schedules/back_in_time.steps, to the schedule in hexadecimal. The words, line by
+# line:
 #
 #     guarded 3        first the edition (plain, drawn or guarded) and N
 #     step 0 x4        four steps of processor 0
 #     raise 1          one raise of processor 1
 #
-# Numbers are decimal. Blank lines are passed over, and so is all from a # on. What comes out is accepted by lockbench, whole.
+# Numbers are decimal. Blank lines are passed over, and so is all from a # on. What comes out is accepted by lockbench,
+# whole.
 
 BEGIN {
     what = "words"
@@ -43,7 +45,8 @@ function act(words,    event, p, times) {
     if (words < 2) fail("the processor is missing after '" word[1] "'")
     p = whole(word[2])
     if (p >= N) fail("processor " p " is not below N, which is " N)
-    if (words > 3) fail("'" word[4] "' is too much; a line is step or raise, a processor, and at most a count such as x4")
+    if (words > 3)
+        fail("'" word[4] "' is too much; a line is step or raise, a processor, and at most a count such as x4")
     times = 1
     if (words == 3) {
         if (word[3] !~ /^x/) fail("'" word[3] "' is no count; a count is written such as x4")

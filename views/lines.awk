@@ -1,5 +1,6 @@
-# lines.awk: what the views share in reading standard input: its lines, the pairs of a line, and how a view gives up.
-# A view sets `what`, the name of what it reads, and has a function take(text) for each whole line; `number` is its number.
+# lines.awk: what all views share: document 01's limits and refusals, the lines of standard input, the pairs of a line,
+# and how a view gives up. A view sets `what`, the name of what it reads, and has a function take(text) for each whole
+# line; `number` is its number.
 
 BEGIN {
     HEX = "0123456789ABCDEF"
@@ -8,6 +9,16 @@ BEGIN {
     edition_name[0] = "plain"; edition_name[1] = "drawn"; edition_name[2] = "guarded"
     EDITIONS = 3
     PROCESSORS = 16
+    # 10 and 11 are answers of the library, and end no log
+    refusal[1] = "the schedule has over 54,009 bytes"
+    refusal[2] = "fewer than 9 bytes are left for a wanted line, or the ninth is no line feed"
+    refusal[3] = "one of the eight is not 0-9 or A-F"
+    refusal[4] = "the check doesn't come to 0"
+    refusal[5] = "line 1 doesn't begin 01, or a later one 02"
+    refusal[6] = "edition over 2"
+    refusal[7] = "N is 0 or over 16"
+    refusal[8] = "event neither 1 nor 2"
+    refusal[9] = "processor not below N"
 }
 
 # Every line in turn. Answers what stands after the last line feed; `number` is then that of the line it would be.
@@ -48,6 +59,14 @@ function checked(text) {
 function well_formed(text, kind, digits) {
     if (length(text) != digits) fail("an " kind " line has " digits " digits, this one has " length(text))
     if (pairs(text) % 256 != 0) fail("the check does not come to 0")
+}
+
+# Edition and N of an 01 line.
+function take_header(e, n) {
+    if (!(e in edition_name)) fail(refusal[6])
+    if (n < 1 || n > PROCESSORS) fail(refusal[7])
+    edition = e
+    N = n
 }
 
 function digits_only(text) {

@@ -1,27 +1,18 @@
-# log.awk: reads a log of lockbench on standard input and replays it from the fresh state. Every view of a log begins here.
+# log.awk: reads a log of lockbench on standard input and replays it from the fresh state. Every view of a log begins
+# here. In order: the reading, a line of each kind, an event.
 #
-# An 03 line does not say which event it answers, and shows one row. So both events of its processor are tried on the state
-# that the lines before it have led to: the line is what a step gives, or a raise, or both. Where it is neither, the log is not
-# lockbench's: one sentence with the number of its line goes to standard error, and the status is 1.
+# An 03 line does not say which event it answers, and shows one row. So both events of its processor are tried on the
+# state that the lines before it have led to: the line is what a step gives, or a raise, or both. Where it is neither,
+# the log is not lockbench's: one sentence with the number of its line goes to standard error, and the status is 1.
 #
-# What is left: edition, N, events; last, the line of the last event; ending, the last line in words; and of each event, by its
-# line k, at_who, at_from and at_to (places), at_act, at_tail, at_locked, at_next, at_flag, at_guard, at_note, at_queue, and
-# at_pass, at_giver, at_taker where the lock goes from one to another. run.awk has joins, entries and the queue.
-# take_part() gives first_shown and last_shown, where a view shows a part. In order: the reading, a line of each kind, an event.
+# What is left: edition, N, events; last, the line of the last event; ending, the last line in words; and of each
+# event, by its line k, at_who, at_from and at_to (places), at_act, at_tail, at_locked, at_next, at_flag, at_guard,
+# at_note, and at_pass, at_giver, at_taker where the lock goes from one to another. run.awk has joins, entries and the
+# queue. take_part() gives first_shown and last_shown, where a view shows a part.
 
 BEGIN {
     what = "log"
     size["01"] = 8; size["03"] = 16; size["04"] = 8; size["05"] = 10
-    # 10 and 11 are answers of the library, and end no log
-    refusal[1] = "the schedule has over 54,009 bytes"
-    refusal[2] = "fewer than 9 bytes are left for a wanted line, or the ninth is no line feed"
-    refusal[3] = "one of the eight is not 0-9 or A-F"
-    refusal[4] = "the check doesn't come to 0"
-    refusal[5] = "line 1 doesn't begin 01, or a later one 02"
-    refusal[6] = "edition over 2"
-    refusal[7] = "N is 0 or over 16"
-    refusal[8] = "event neither 1 nor 2"
-    refusal[9] = "processor not below N"
     N = events = 0
     last = 1
 }
@@ -36,12 +27,13 @@ function read_log() {
 }
 
 # The lines that `from` and `to` ask for: those of events from first_shown to last_shown.
-function take_part() {
+function take_part(    asked) {
     first_shown = from == "" || from < 2 ? 2 : from + 0
     last_shown = to == "" || to > last ? last : to + 0
     if (from to == "" || first_shown <= last_shown) return
-    print "lockbench: " (from == "" ? "up to line " to : to == "" ? "from line " from " on" : "from line " from " to " to) \
-        " there is no event in this log, " (events == 0 ? "which has none" : "whose events are at lines 2 to " last) > "/dev/stderr"
+    asked = from == "" ? "up to line " to : to == "" ? "from line " from " on" : "from line " from " to " to
+    print "lockbench: " asked " there is no event in this log, " \
+        (events == 0 ? "which has none" : "whose events are at lines 2 to " last) > "/dev/stderr"
     exit 1
 }
 
@@ -65,10 +57,7 @@ function take(text,    kind) {
 
 # 01 edition N check: the fresh state
 function opening(e, n,    p) {
-    if (!(e in edition_name)) fail("edition over 2")
-    if (n < 1 || n > PROCESSORS) fail("N is 0 or over 16")
-    edition = e
-    N = n
+    take_header(e, n)
     now["L", LOCK] = NONE
     for (p = 0; p < N; p++) {
         now["next", p] = now["pred", p] = now["succ", p] = now["nx", p] = NONE
@@ -102,7 +91,8 @@ function count(accepted) {
     ending = accepted (accepted == 1 ? " event" : " events") " accepted"
 }
 
-# 05 refusal high low check. Before line 1 the bytes are counted, line 1 alone makes the state, a later line is an event.
+# 05 refusal high low check. Before line 1 the bytes are counted, line 1 alone makes the state, a later line is an
+# event.
 function refused(r, at,    stands) {
     if (!(r in refusal)) fail("refusal " r " ends no log")
     if ((number > 1 && (r == 1 || r == 6 || r == 7)) || (number == 1 && r >= 8) || number > MOST + 1)
@@ -158,8 +148,9 @@ function note(p, from) {
 function not_lockbenchs(p, shown, stepped, raised,    passed) {
     split(shown, v, " ")
     passed = v[1] == INSIDE && v[5] >= 4 ? would_pass(p) : ""
-    fail("no event of processor " p " gives this line after the lines before it, so the log is not lockbench's; a step (" \
-        place_name[now["place", p]] ") gives " row_line(p, stepped) ", a raise " row_line(p, raised) passed)
+    fail("no event of processor " p " gives this line after the lines before it, so the log is not lockbench's; " \
+        "a step (" place_name[now["place", p]] ") gives " row_line(p, stepped) \
+        ", a raise " row_line(p, raised) passed)
 }
 
 function row_line(p, row) {

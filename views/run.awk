@@ -1,10 +1,10 @@
-# run.awk: what a replayed log shows of the queue: joins, entries, interrupts taken, who waits, and who was passed over. The
-# words are those of docs/RANDOM.md, 'The verdict in numbers'.
+# run.awk: what a replayed log shows of the queue: joins, entries, interrupts taken, who waits, and who was passed over.
+# The words are those of docs/RANDOM.md, 'The verdict in numbers'. In order: joins and entries, the queue, the order.
 #
-# What is left of line k: at_queue, and whether k is in at_join, at_entry, at_interrupt. Of join j, from 1 to joins: join_who and
-# join_line; join_end (entered, again or open) and join_end_line; join_waited, the entries of others in its stretch;
-# join_interrupt, the line of the first interrupt taken in it, or 0; join_passed, the number of overtakings, and of each of them,
-# i from 1: passer_who[j, i], passer_joined[j, i], passer_entered[j, i].
+# What is left of line k: at_queue, and whether k is in at_join, at_entry, at_interrupt. Of join j, from 1 to joins:
+# join_who and join_line; join_end (entered, again or open) and join_end_line; join_waited, the entries of others in its
+# stretch; join_interrupt, the line of the first interrupt taken in it, or 0; join_passed, the number of overtakings,
+# and of each of them, i from 1: passer_who[j, i], passer_joined[j, i], passer_entered[j, i].
 
 BEGIN {
     joins = entries = interrupts = overtakings = standing = 0
@@ -100,7 +100,7 @@ function impossible(j, i) {
     return join_end[j] == "entered" || join_interrupt[j] == 0 || passer_entered[j, i] < join_interrupt[j]
 }
 
-# If one is found the replay itself is wrong, since no run of these editions has it (NobodyLaterEnters, NobodyOvertakes).
+# If one is found the replay itself is wrong, as no run of these editions has it (NobodyLaterEnters, NobodyOvertakes).
 function judge_order(    j, i) {
     for (j = 1; j <= joins; j++)
         for (i = 1; i <= join_passed[j]; i++)

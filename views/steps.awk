@@ -1,5 +1,5 @@
-# steps.awk: a schedule in hexadecimal to the words that hex.awk reads. Only what lockbench accepts whole is told; hex.awk then
-# gives the same bytes back.
+# steps.awk: a schedule in hexadecimal to the words that hex.awk reads. Only what lockbench accepts whole is told;
+# hex.awk then gives the same bytes back.
 
 BEGIN {
     what = "schedule"
@@ -12,23 +12,16 @@ BEGIN {
 function take(text,    kind) {
     digits_only(text)
     kind = substr(text, 1, 2)
-    if (kind == "03" || kind == "04" || kind == "05") fail("begins " kind ", which is a line of a log; a schedule is wanted")
+    if (kind ~ /^0[345]$/) fail("begins " kind ", which is a line of a log; a schedule is wanted")
     if (number == 1 && kind != "01") fail("does not begin 01")
     if (number > 1 && kind != "02") fail("does not begin 02")
     well_formed(text, kind, 8)
-    if (number == 1) header(v[2], v[3])
+    if (number == 1) take_header(v[2], v[3])
     else act(v[2], v[3])
 }
 
-function header(e, n) {
-    if (!(e in edition_name)) fail("edition over 2")
-    if (n < 1 || n > PROCESSORS) fail("N is 0 or over 16")
-    edition = e
-    N = n
-}
-
 function act(event, p,    words) {
-    if (event != 1 && event != 2) fail("event neither 1 nor 2")
+    if (event != 1 && event != 2) fail(refusal[8])
     if (p >= N) fail("processor " p " is not below N, which is " N)
     if (number > MOST + 1) fail("a schedule has no more than 6,000 events")
     words = (event == 1 ? "step " : "raise ") p

@@ -1,8 +1,8 @@
-# table.awk: document 01's places and its step table, as the views know them. In order: names and phases, a step as a list
-# of writes, the acts of each phase.
+# table.awk: document 01's places and its step table, as the views know them. In order: names and phases, a step as a
+# list of writes, the acts of each phase.
 #
-# now[NAME, p] is a cell of processor p's row as the run has it; now["L", LOCK] is L. A step writes nothing at once: put()
-# notes what it would write, so that a line of the log can first be held against it. `did` says what the step does.
+# now[NAME, p] is a cell of processor p's row as the run has it; now["L", LOCK] is L. A step writes nothing at once:
+# put() notes what it would write, so that a line of the log can first be held against it. `did` says what it does.
 
 BEGIN {
     LOCK = "lock"

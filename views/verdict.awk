@@ -1,5 +1,5 @@
-# verdict.awk: who waited how long, and who was passed over by whom, told from a replayed log. It ends every log in words;
-# verdict_main.awk prints it alone. In order: the table of joins, the sentences, the summary in a few words.
+# verdict.awk: who waited how long, and who was passed over by whom, told from a replayed log. It ends every log in
+# words; verdict_main.awk prints it alone. In order: the table of joins, the sentences, the summary in a few words.
 
 function verdict(    j) {
     print "Verdict"
@@ -47,27 +47,34 @@ function led_to(j) {
 # Everybody who passed this join over.
 function passers(j, between, by,    i, list) {
     for (i = 1; i <= join_passed[j]; i++)
-        list = list (i == 1 ? "" : between) by passer_who[j, i] " (" lines_of(passer_joined[j, i], passer_entered[j, i]) ")"
+        list = list (i == 1 ? "" : between) by passer(passer_who[j, i], passer_joined[j, i], passer_entered[j, i])
     return list == "" ? "-" : list
 }
 
-function lines_of(joined, entered) {
-    return joined == entered ? "joined and entered " joined : "joined " joined ", entered " entered
+function passer(q, joined, entered) {
+    return q (joined == entered ? " (joined and entered " joined ")" : " (joined " joined ", entered " entered ")")
 }
 
 function sentence(j,    how) {
     if (join_end[j] == "entered") how = " and entered at line " join_end_line[j]
     else if (join_end[j] == "again") how = " and, without an entry, again at line " join_end_line[j]
     else how = " and not entered by the end of the log"
-    return "processor " join_who[j] ", joined at line " join_line[j] how ", was passed over " passers(j, " and ", "by ") \
-        "; it had taken " (join_interrupt[j] ? "an interrupt at line " join_interrupt[j] : "no interrupt")
+    return "processor " join_who[j] ", joined at line " join_line[j] how ", was passed over " \
+        passers(j, " and ", "by ") "; it had taken " interrupt_taken(j)
+}
+
+# When it was first passed over it may have taken no interrupt yet.
+function interrupt_taken(j) {
+    if (join_interrupt[j] == 0) return "no interrupt"
+    if (join_interrupt[j] < passer_entered[j, 1]) return "an interrupt at line " join_interrupt[j]
+    return "no interrupt before line " join_interrupt[j]
 }
 
 # What plain and guarded claim, where somebody was passed over all the same.
 function claim() {
     if (!ordered[edition]) return "The drawn edition carries no claim of order."
-    return "Demand 3 claims nothing of a waiter that has taken an interrupt. NobodyOvertakes covers the last join before an\n" \
-        "entry, with any interrupts; these joins led to no entry."
+    return "Demand 3 claims nothing of a waiter that has taken an interrupt. NobodyOvertakes covers the last join\n" \
+        "before an entry, with any interrupts; these joins led to no entry."
 }
 
 # The verdict in a few words.

@@ -26,7 +26,7 @@ function event_table(    k) {
         cell(sprintf("%4d", k))
         cell(at_who[k])
         cell(at_act[k])
-        cell(where(k))
+        cell(place_words(k))
         cell(none_or(at_tail[k]))
         cell(locked_name[at_locked[k]])
         cell(none_or(at_next[k]))
@@ -38,8 +38,9 @@ function event_table(    k) {
     print_table("rrlllllllll")
 }
 
-function where(k) {
-    return (at_from[k] != at_to[k] ? "to " : at_act[k] == "raise" ? "at " : "stays at ") at_to[k] " " place_name[at_to[k]]
+function place_words(k,    how) {
+    how = at_from[k] != at_to[k] ? "to " : at_act[k] == "raise" ? "at " : "stays at "
+    return how at_to[k] " " place_name[at_to[k]]
 }
 
 function none_or(x) {
