@@ -1,10 +1,10 @@
--- Document 01, "The step table": the act of each place, under its name and with its sentence. s is the state, p the processor
--- that steps; "own" is p's row. Which act a step does is said in Table.
+-- Document 01, "The step table", and request [1]: the act of each place, under its name and with its sentence. s is the state, p
+-- the processor that steps; "own" is p's row. Which act a step does is said in Table.
 use Prim.Native.Nat.{ℕ}
 use mathlib.Core.Bool.{true, false, _&&_, cond}
 use lib.Dec.{eqb}
 use Rattle.lock.specs.declared.LockState.{LockState}
-use Rattle.lock.specs.State.{none, isNone, isPlain, isDrawn, isGuarded, Released, Locked, Preempted, RP, row, putTail, putNext, putLocked, putGuard, putFlag, to, putPred, putSucc, putNx}
+use Rattle.lock.specs.State.{none, isNone, isPlain, isDrawn, isGuarded, isOld, Released, Locked, Preempted, RP, row, putTail, putNext, putLocked, putGuard, putFlag, to, putPred, putSucc, putNx}
 
 -- "to 1 (guarded) or 2": the way to the queue
 unfoldable pub toQueue : LockState → ℕ → LockState
@@ -22,9 +22,9 @@ onward s p = cond (isNone ((row s p) .nx)) (to s p 0) (to (putSucc s p ((row s p
 unfoldable pub toLift : LockState → ℕ → LockState
 toLift s p = cond (isDrawn (s .edition)) (onward s p) (to s p 22)
 
--- 0 rest: "flag set: clear it, stay. Otherwise to 1 (guarded) or 2"
+-- 0 rest: "flag set: clear it, stay. Otherwise to 1 (guarded) or 2"; [1] "flag handling as before, then to 23"
 unfoldable pub rest : LockState → ℕ → LockState
-rest s p = cond ((row s p) .flag) (putFlag s p false) (toQueue s p)
+rest s p = cond ((row s p) .flag) (putFlag s p false) (cond (isOld (s .edition)) (to s p 23) (toQueue s p))
 
 -- 1 gate: "own guard set: stay. Otherwise to 2"
 unfoldable pub gate : LockState → ℕ → LockState
@@ -59,9 +59,9 @@ spin s p = cond (eqb ((row s p) .locked) Released) (to s p 9) (cond (isPlain (s 
 unfoldable pub settle : LockState → ℕ → LockState
 settle s p = to (putLocked s p Released) p 9
 
--- 9 inside: "to 14"
+-- 9 inside: "to 14"; [1] "9 goes to 26"
 unfoldable pub inside : LockState → ℕ → LockState
-inside s p = to s p 14
+inside s p = to s p (cond (isOld (s .edition)) 26 14)
 
 -- 10 poll: "flag set and own locked 1: locked := 2, flag clear, to 11. Otherwise to 7"
 unfoldable pub poll : LockState → ℕ → LockState
@@ -124,3 +124,21 @@ take s p =
 -- 22 lift: "succ's guard clear; nx none: to 0; otherwise succ := nx, to 17"
 unfoldable pub lift : LockState → ℕ → LockState
 lift s p = onward (putGuard s ((row s p) .succ) false) p
+
+-- ---- the old boards' lock, edition 3
+
+-- 23 try: "L none becomes self, to 9; otherwise to 24"
+unfoldable pub oldTry : LockState → ℕ → LockState
+oldTry s p = cond (isNone (s .tail)) (to (putTail s p) p 9) (to s p 24)
+
+-- 24 poll: "flag set, clear it, to 25; otherwise to 23"
+unfoldable pub oldPoll : LockState → ℕ → LockState
+oldPoll s p = cond ((row s p) .flag) (to (putFlag s p false) p 25) (to s p 23)
+
+-- 25 service: "to 23"
+unfoldable pub oldService : LockState → ℕ → LockState
+oldService s p = to s p 23
+
+-- 26 free: "L := none, to 0"
+unfoldable pub oldFree : LockState → ℕ → LockState
+oldFree s p = to (putTail s none) p 0

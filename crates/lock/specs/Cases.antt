@@ -81,8 +81,8 @@ cases =
     ∷ P 2 (answers (fresh guarded 16) 0 ∷ [])
     -- "N 17: 7"
     ∷ P 3 (answers (fresh guarded 17) 7 ∷ [])
-    -- "edition 3 with N 0: 6"
-    ∷ P 4 (answers (fresh 3 0) 6 ∷ [])
+    -- "edition 3 with N 0: 6"; [1] "case P4 takes edition 4"
+    ∷ P 4 (answers (fresh 4 0) 6 ∷ [])
     -- "N 16, step of 15 accepted"
     ∷ P 5 (answers (happens (begun guarded 16) 1 15) 0 ∷ [])
     -- "step of 16: 9"

@@ -10,7 +10,7 @@ use mathlib.Core.List.{List, [], _∷_, _++_}
 use lib.ListN.{length}
 use Rattle.lock.specs.declared.LockState.{LockState}
 use Rattle.lock.specs.declared.Answer.{Answer}
-use Rattle.lock.specs.State.{processors, isPlain, isDrawn, isGuarded, freshState, row}
+use Rattle.lock.specs.State.{processors, isPlain, isDrawn, isGuarded, isOld, freshState, row}
 use Rattle.lock.specs.Event.{fresh, happens}
 use Rattle.lock.specs.Run.{Call, run, joins, enters, isInside}
 use Rattle.lock.specs.Count.{joinsIn, entriesIn, interruptsIn, allEntriesIn, latestJoin, between}
@@ -25,9 +25,9 @@ pub record Ordered (e n : ℕ) : Type 0 where
   pub least : 1 ≤ n
   pub most : n ≤ processors
 
--- any of the three editions, with N from 1 to 16
+-- any of the four editions, with N from 1 to 16
 pub record AnyEdition (e n : ℕ) : Type 0 where
-  pub edition : (isPlain e || isDrawn e || isGuarded e) ≡ true
+  pub edition : (isPlain e || isDrawn e || isGuarded e || isOld e) ≡ true
   pub least : 1 ≤ n
   pub most : n ≤ processors
 
@@ -41,7 +41,7 @@ NeverTwoInside =
     → isInside (reached e n calls) q ≡ true
     → p ≡ q
 
--- The drawn edition keeps that too.
+-- The drawn edition keeps that too; and the old boards' lock, [1]: "Prove that two are never inside together."
 abbrev pub NeverTwoInsideAnyEdition : Type 0
 NeverTwoInsideAnyEdition =
     (e n : ℕ) (calls : List Call) (p q : ℕ)

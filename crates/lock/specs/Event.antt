@@ -18,7 +18,7 @@ refused number s = record { refusal = number; state = s }
 abbrev pub filler : LockState
 filler = freshState 0 1
 
--- 6: "edition over 2"; 7: "N is 0 or over 16"
+-- 6: "edition over 2", since [1] "over 3"; 7: "N is 0 or over 16"
 unfoldable pub fresh : ℕ → ℕ → Answer
 fresh e n =
     cond (leb editions e) (refused 6 filler)

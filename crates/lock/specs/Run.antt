@@ -1,7 +1,7 @@
 -- Schedules and what happens in them: a schedule is a list of events, a run is what they make of a state, one after the other.
 -- Joins, entries and interrupts are read off a single step of the run; nothing is tallied in the state.
 use Prim.Native.Nat.{ℕ}
-use mathlib.Core.Bool.{Bool, _&&_}
+use mathlib.Core.Bool.{Bool, _&&_, _||_}
 use mathlib.Core.List.{List, [], _∷_}
 use lib.Dec.{eqb}
 use Rattle.lock.specs.declared.LockState.{LockState}
@@ -34,9 +34,13 @@ joins s c p = stepsOf s c p && eqb ((row s p) .place) 3
 unfoldable pub enters : LockState → Call → ℕ → Bool
 enters s c p = stepsOf s c p && eqb ((row (after s c) p) .place) 9
 
--- "It takes an interrupt when a poll step ends at 11"
+-- processor p's place is a before the call, and b after it
+abbrev pub fromTo : LockState → Call → ℕ → ℕ → ℕ → Bool
+fromTo s c p a b = eqb ((row s p) .place) a && eqb ((row (after s c) p) .place) b
+
+-- "It takes an interrupt when a poll step ends at 11"; [1] "Here an interrupt is taken when a poll step ends at 25"
 unfoldable pub interrupted : LockState → Call → ℕ → Bool
-interrupted s c p = stepsOf s c p && eqb ((row s p) .place) 10 && eqb ((row (after s c) p) .place) 11
+interrupted s c p = stepsOf s c p && (fromTo s c p 10 11 || fromTo s c p 24 25)
 
 -- "A processor is inside while its place is 9"
 unfoldable pub isInside : LockState → ℕ → Bool

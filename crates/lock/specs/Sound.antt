@@ -1,4 +1,5 @@
--- Document 01, "A state is sound when": each part in the document's order, the places of each edition as its three lists.
+-- Document 01, "A state is sound when": each part in the document's order, the places of each edition as its list there, and that
+-- of request [1].
 use Prim.Native.Nat.{ℕ}
 use mathlib.Core.Bool.{Bool, false, not, _&&_, _||_, cond}
 use mathlib.Core.List.{List, [], _∷_, _++_}
@@ -6,11 +7,11 @@ use lib.Dec.{eqb, ltb, leb}
 use Rattle.lock.specs.declared.Row.{Row}
 use Rattle.lock.specs.declared.LockState.{LockState}
 use Rattle.choice.specs.Every.{every}
-use Rattle.lock.specs.State.{processors, editions, isNone, isPlain, isDrawn, isGuarded, RP, row}
+use Rattle.lock.specs.State.{processors, editions, isNone, isPlain, isDrawn, isGuarded, isOld, RP, row}
 
--- "23 rows": the places 0 to 22
+-- "23 rows": the places 0 to 22; [1] adds 23 to 26
 abbrev pub places : ℕ
-places = 23
+places = 27
 
 abbrev pub isIn : List ℕ → ℕ → Bool
 isIn [] k = false
@@ -24,10 +25,19 @@ plainPlaces = 0 ∷ 2 ∷ 3 ∷ 4 ∷ 5 ∷ 7 ∷ 9 ∷ 14 ∷ 15 ∷ 16 ∷ 17 
 abbrev pub drawnPlaces : List ℕ
 drawnPlaces = plainPlaces ++ (6 ∷ 8 ∷ 10 ∷ 11 ∷ 12 ∷ 13 ∷ 19 ∷ 20 ∷ 21 ∷ [])
 
--- the place k is one that edition e has; "guarded has all of 0 to 22"
+-- "guarded has all of 0 to 22"
+abbrev pub guardedLast : ℕ
+guardedLast = 22
+
+-- [1] "edition 3, places 0, 9 and 23 to 26"
+abbrev pub oldPlaces : List ℕ
+oldPlaces = 0 ∷ 9 ∷ 23 ∷ 24 ∷ 25 ∷ 26 ∷ []
+
+-- the place k is one that edition e has
 unfoldable pub hasPlace : ℕ → ℕ → Bool
 hasPlace e k =
-    cond (isPlain e) (isIn plainPlaces k) (cond (isDrawn e) (isIn drawnPlaces k) (cond (isGuarded e) (ltb k places) false))
+    cond (isPlain e) (isIn plainPlaces k)
+    (cond (isDrawn e) (isIn drawnPlaces k) (cond (isGuarded e) (leb k guardedLast) (cond (isOld e) (isIn oldPlaces k) false)))
 
 -- "none or below N"
 abbrev pub noneOrBelow : ℕ → ℕ → Bool

@@ -18,7 +18,8 @@ none = 255
 abbrev pub isNone : ℕ → Bool
 isNone q = eqb q none
 
--- "Edition: 0 plain (figure 1, interrupts masked as in figure 3), 1 drawn (figure 5), 2 guarded (figure 5 with the Boolean)"
+-- "Edition: 0 plain (figure 1, interrupts masked as in figure 3), 1 drawn (figure 5), 2 guarded (figure 5 with the Boolean)";
+-- request [1]: 3 old, "the interruptible test-and-set lock of source document 000, figure 4"
 abbrev pub plain : ℕ
 plain = 0
 
@@ -28,8 +29,11 @@ drawn = 1
 abbrev pub guarded : ℕ
 guarded = 2
 
+abbrev pub old : ℕ
+old = 3
+
 abbrev pub editions : ℕ
-editions = 3
+editions = 4
 
 abbrev pub isPlain : ℕ → Bool
 isPlain e = eqb e plain
@@ -39,6 +43,9 @@ isDrawn e = eqb e drawn
 
 abbrev pub isGuarded : ℕ → Bool
 isGuarded e = eqb e guarded
+
+abbrev pub isOld : ℕ → Bool
+isOld e = eqb e old
 
 -- "locked (0 Released, 1 Locked, 2 Preempted, 3 R_P, released while preempted)"
 abbrev pub Released : ℕ

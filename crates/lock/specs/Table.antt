@@ -1,4 +1,5 @@
--- Document 01, "The step table": the places by number and name, and the act of each.
+-- Document 01, "The step table", and request [1]: the places by number and name, and the act of each. The old boards' lock has
+-- places 0 and 9 with the others, and 23 to 26, try, poll, service and free, to itself.
 use Prim.Native.Nat.{ℕ}
 use mathlib.Core.List.{List, [], _∷_}
 use lib.ListN.{getD}
@@ -6,14 +7,14 @@ use Rattle.lock.specs.declared.LockState.{LockState}
 use Rattle.lock.specs.State.{row}
 use Rattle.lock.specs.Acts as Acts
 
--- the 23 places, and nowhere for a number that is no place (no sound state has one)
+-- the 27 places, and nowhere for a number that is no place (no sound state has one)
 pub data Place : Type 0 where
-  rest gate clear swap arm link claim spin settle inside poll service back regain look close await hand fence park peek take lift nowhere : Place
+  rest gate clear swap arm link claim spin settle inside poll service back regain look close await hand fence park peek take lift oldTry oldPoll oldService oldFree nowhere : Place
 
 abbrev pub names : List Place
 names =
     rest ∷ gate ∷ clear ∷ swap ∷ arm ∷ link ∷ claim ∷ spin ∷ settle ∷ inside ∷ poll ∷ service ∷ back ∷ regain ∷ look ∷ close
-    ∷ await ∷ hand ∷ fence ∷ park ∷ peek ∷ take ∷ lift ∷ []
+    ∷ await ∷ hand ∷ fence ∷ park ∷ peek ∷ take ∷ lift ∷ oldTry ∷ oldPoll ∷ oldService ∷ oldFree ∷ []
 
 abbrev pub placeAt : ℕ → Place
 placeAt k = getD names k nowhere
@@ -43,6 +44,10 @@ act park s p = Acts.park s p
 act peek s p = Acts.peek s p
 act take s p = Acts.take s p
 act lift s p = Acts.lift s p
+act oldTry s p = Acts.oldTry s p
+act oldPoll s p = Acts.oldPoll s p
+act oldService s p = Acts.oldService s p
+act oldFree s p = Acts.oldFree s p
 act nowhere s p = s
 
 unfoldable pub stepped : LockState → ℕ → LockState

@@ -1,4 +1,4 @@
-// The 23 acts of document 01's step table, each under its name. What an act does is said by the definition of the same name in
+// The 27 acts of the step table of document 01 and request [1], each under its name. What an act does is said by the definition of the same name in
 // specs/Acts; the comments here say why the step is there.
 use crate::LockState;
 ghost use mathlib.Core.Path.{_≡_};
@@ -53,7 +53,11 @@ impl LockState {
     {
         let own = self.row(p);
         if own.flag {
-            self.put_flag(p, false)
+            return self.put_flag(p, false);
+        }
+        let old = self.edition == LockState::OLD;
+        if old {
+            self.to(p, 23)
         } else {
             self.to_queue(p)
         }
@@ -141,7 +145,12 @@ impl LockState {
     pub(crate) fn inside(self, p: u8) -> LockState
         ensures { λ s. ⌜ s ≡ Acts.inside self p ⌝ }
     {
-        self.to(p, 14)
+        let old = self.edition == LockState::OLD;
+        if old {
+            self.to(p, 26)
+        } else {
+            self.to(p, 14)
+        }
     }
 
     // Where the exchange fails the lock has just been handed over: the flag stays for the next rest.
@@ -297,5 +306,42 @@ impl LockState {
     {
         let own = self.row(p);
         self.put_guard(own.succ, false).onward(p)
+    }
+
+    // Test and set in one act: two who find the lock free at once cannot both take it.
+    pub(crate) fn old_try(self, p: u8) -> LockState
+        ensures { λ s. ⌜ s ≡ Acts.oldTry self p ⌝ }
+    {
+        let free = self.tail == LockState::NONE;
+        if free {
+            self.put_tail(p).to(p, 9)
+        } else {
+            self.to(p, 24)
+        }
+    }
+
+    // No turn can be lost here, as nobody keeps one: the flag alone decides.
+    pub(crate) fn old_poll(self, p: u8) -> LockState
+        ensures { λ s. ⌜ s ≡ Acts.oldPoll self p ⌝ }
+    {
+        let own = self.row(p);
+        if own.flag {
+            self.put_flag(p, false).to(p, 25)
+        } else {
+            self.to(p, 23)
+        }
+    }
+
+    pub(crate) fn old_service(self, p: u8) -> LockState
+        ensures { λ s. ⌜ s ≡ Acts.oldService self p ⌝ }
+    {
+        self.to(p, 23)
+    }
+
+    // Whoever tries next has it, be it the one who leaves.
+    pub(crate) fn old_free(self, p: u8) -> LockState
+        ensures { λ s. ⌜ s ≡ Acts.oldFree self p ⌝ }
+    {
+        self.put_tail(LockState::NONE).to(p, 0)
     }
 }

@@ -65,18 +65,20 @@ impl LockState {
     // The limits.
     pub const PROCESSORS: u8 = 16;
 
-    pub const PLACES: u8 = 23;
+    pub const PLACES: u8 = 27;
 
     pub const NONE: u8 = 255;
 
     // The editions, and how many there are.
-    pub const EDITIONS: u8 = 3;
+    pub const EDITIONS: u8 = 4;
 
     pub const PLAIN: u8 = 0;
 
     pub const DRAWN: u8 = 1;
 
     pub const GUARDED: u8 = 2;
+
+    pub const OLD: u8 = 3;
 
     // The events.
     pub const STEP: u8 = 1;

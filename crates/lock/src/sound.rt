@@ -13,31 +13,35 @@ const EDITIONS: usize = LockState::EDITIONS as usize;
 
 const PLACES: usize = LockState::PLACES as usize;
 
-// Which places an edition has: a row for each place, a column for each edition (plain, drawn, guarded).
+// Which places an edition has: a row for each place, a column for each edition (plain, drawn, guarded, old).
 const HAS: [[bool; EDITIONS]; PLACES] = [
-    [true, true, true], // 0 rest
-    [false, false, true], // 1 gate
-    [true, true, true], // 2 clear
-    [true, true, true], // 3 swap
-    [true, true, true], // 4 arm
-    [true, true, true], // 5 link
-    [false, true, true], // 6 claim
-    [true, true, true], // 7 spin
-    [false, true, true], // 8 settle
-    [true, true, true], // 9 inside
-    [false, true, true], // 10 poll
-    [false, true, true], // 11 service
-    [false, true, true], // 12 back
-    [false, true, true], // 13 regain
-    [true, true, true], // 14 look
-    [true, true, true], // 15 close
-    [true, true, true], // 16 await
-    [true, true, true], // 17 hand
-    [false, false, true], // 18 fence
-    [false, true, true], // 19 park
-    [false, true, true], // 20 peek
-    [false, true, true], // 21 take
-    [false, false, true], // 22 lift
+    [true, true, true, true], // 0 rest
+    [false, false, true, false], // 1 gate
+    [true, true, true, false], // 2 clear
+    [true, true, true, false], // 3 swap
+    [true, true, true, false], // 4 arm
+    [true, true, true, false], // 5 link
+    [false, true, true, false], // 6 claim
+    [true, true, true, false], // 7 spin
+    [false, true, true, false], // 8 settle
+    [true, true, true, true], // 9 inside
+    [false, true, true, false], // 10 poll
+    [false, true, true, false], // 11 service
+    [false, true, true, false], // 12 back
+    [false, true, true, false], // 13 regain
+    [true, true, true, false], // 14 look
+    [true, true, true, false], // 15 close
+    [true, true, true, false], // 16 await
+    [true, true, true, false], // 17 hand
+    [false, false, true, false], // 18 fence
+    [false, true, true, false], // 19 park
+    [false, true, true, false], // 20 peek
+    [false, true, true, false], // 21 take
+    [false, false, true, false], // 22 lift
+    [false, false, false, true], // 23 try
+    [false, false, false, true], // 24 poll
+    [false, false, false, true], // 25 service
+    [false, false, false, true], // 26 free
 ];
 
 fn has_place(edition: u8, place: u8) -> bool

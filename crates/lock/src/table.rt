@@ -33,6 +33,10 @@ impl LockState {
             20 => self.peek(p),
             21 => self.take(p),
             22 => self.lift(p),
+            23 => self.old_try(p),
+            24 => self.old_poll(p),
+            25 => self.old_service(p),
+            26 => self.old_free(p),
             _ => self,
         }
     }

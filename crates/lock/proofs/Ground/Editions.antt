@@ -1,49 +1,54 @@
 -- Which places an edition has: the constant table's rule, by one computed test.
---     has-right      the table of 23 rows and 3 columns is document 01's three lists
+--     has-right      the table of 27 rows and 4 columns is the four lists of document 01 and request [1]
 --     has-beyond     no edition has a place past the table
 --     has-none       no other edition has a place
 --     has-normal     the number may be taken for that of the place which it names
-use Prim.Native.Nat.{ℕ, _<_, _≤_}
+--     has-queue      only the old boards' lock has the places that are apart
+use Prim.Native.Nat.{ℕ, suc, _<_, _≤_}
 use native.Mathlib.Omega.{arith}
-use mathlib.Core.Path.{_≡_, refl, sym, subst}
+use mathlib.Core.Path.{_≡_, refl, sym, ap, subst, _∙_}
 use mathlib.Core.Bool.{Bool, true, false, _&&_, Bool·beq, cond}
 use mathlib.Core.List.{List, [], _∷_}
 use lib.ListN.{getD}
-use lib.Dec.{ltb}
-use borrow.Author.Tests.{ltb-true, ne-eqb, le-ltb}
+use lib.Dec.{ltb, leb}
+use borrow.Author.Tests.{ltb-true, lt-leb, ne-eqb}
 use Rattle.choice.specs.Every.{every}
-use Rattle.choice.proofs.Tests.{clash, beq-eq, and-left, and-right}
+use Rattle.choice.proofs.Tests.{clash, beq-eq, and-left, and-right, implies, implied}
 use Rattle.choice.proofs.Numbers.{every-at}
-use Rattle.lock.specs.State.{editions, isPlain, isDrawn, isGuarded}
-use Rattle.lock.specs.Sound.{isIn, plainPlaces, drawnPlaces, hasPlace, places}
-use Rattle.lock.proofs.Ground.Facts.{by-number, normal, normal-within}
+use Rattle.lock.specs.State.{editions, isPlain, isDrawn, isGuarded, isOld}
+use Rattle.lock.specs.Sound.{isIn, plainPlaces, drawnPlaces, guardedLast, oldPlaces, hasPlace, places}
+use Rattle.lock.proofs.Ground.Facts.{by-number, normal, normal-within, placed, entry, phaseAt, isApart, at-every}
 
 -- the code's constant, once more: the check holds the two together at the function that reads it
 abbrev pub has : List (List Bool)
 has =
-    (true ∷ true ∷ true ∷ [])
-    ∷ (false ∷ false ∷ true ∷ [])
-    ∷ (true ∷ true ∷ true ∷ [])
-    ∷ (true ∷ true ∷ true ∷ [])
-    ∷ (true ∷ true ∷ true ∷ [])
-    ∷ (true ∷ true ∷ true ∷ [])
-    ∷ (false ∷ true ∷ true ∷ [])
-    ∷ (true ∷ true ∷ true ∷ [])
-    ∷ (false ∷ true ∷ true ∷ [])
-    ∷ (true ∷ true ∷ true ∷ [])
-    ∷ (false ∷ true ∷ true ∷ [])
-    ∷ (false ∷ true ∷ true ∷ [])
-    ∷ (false ∷ true ∷ true ∷ [])
-    ∷ (false ∷ true ∷ true ∷ [])
-    ∷ (true ∷ true ∷ true ∷ [])
-    ∷ (true ∷ true ∷ true ∷ [])
-    ∷ (true ∷ true ∷ true ∷ [])
-    ∷ (true ∷ true ∷ true ∷ [])
-    ∷ (false ∷ false ∷ true ∷ [])
-    ∷ (false ∷ true ∷ true ∷ [])
-    ∷ (false ∷ true ∷ true ∷ [])
-    ∷ (false ∷ true ∷ true ∷ [])
-    ∷ (false ∷ false ∷ true ∷ [])
+    (true ∷ true ∷ true ∷ true ∷ [])
+    ∷ (false ∷ false ∷ true ∷ false ∷ [])
+    ∷ (true ∷ true ∷ true ∷ false ∷ [])
+    ∷ (true ∷ true ∷ true ∷ false ∷ [])
+    ∷ (true ∷ true ∷ true ∷ false ∷ [])
+    ∷ (true ∷ true ∷ true ∷ false ∷ [])
+    ∷ (false ∷ true ∷ true ∷ false ∷ [])
+    ∷ (true ∷ true ∷ true ∷ false ∷ [])
+    ∷ (false ∷ true ∷ true ∷ false ∷ [])
+    ∷ (true ∷ true ∷ true ∷ true ∷ [])
+    ∷ (false ∷ true ∷ true ∷ false ∷ [])
+    ∷ (false ∷ true ∷ true ∷ false ∷ [])
+    ∷ (false ∷ true ∷ true ∷ false ∷ [])
+    ∷ (false ∷ true ∷ true ∷ false ∷ [])
+    ∷ (true ∷ true ∷ true ∷ false ∷ [])
+    ∷ (true ∷ true ∷ true ∷ false ∷ [])
+    ∷ (true ∷ true ∷ true ∷ false ∷ [])
+    ∷ (true ∷ true ∷ true ∷ false ∷ [])
+    ∷ (false ∷ false ∷ true ∷ false ∷ [])
+    ∷ (false ∷ true ∷ true ∷ false ∷ [])
+    ∷ (false ∷ true ∷ true ∷ false ∷ [])
+    ∷ (false ∷ true ∷ true ∷ false ∷ [])
+    ∷ (false ∷ false ∷ true ∷ false ∷ [])
+    ∷ (false ∷ false ∷ false ∷ true ∷ [])
+    ∷ (false ∷ false ∷ false ∷ true ∷ [])
+    ∷ (false ∷ false ∷ false ∷ true ∷ [])
+    ∷ (false ∷ false ∷ false ∷ true ∷ [])
     ∷ []
 
 all-right : every places (λ k. every editions (λ e. Bool·beq (getD (getD has k []) e false) (hasPlace e k))) ≡ true
@@ -67,21 +72,26 @@ not-in b k (x ∷ xs) e h =
     simp (ne-eqb x k (λ q. omega arith)) (not-in b k xs (and-right (ltb x b) (below b xs) e) h)
 
 -- whichever edition it is
-past : (a b c : Bool) (x y z : Bool) → x ≡ false → y ≡ false → z ≡ false → false ≡ cond a x (cond b y (cond c z false))
-past true b c x y z ex ey ez = sym ex
-past false true c x y z ex ey ez = sym ey
-past false false true x y z ex ey ez = sym ez
-past false false false x y z ex ey ez = refl
+past :
+    (a b c d : Bool) (x y z w : Bool) → x ≡ false → y ≡ false → z ≡ false → w ≡ false
+    → false ≡ cond a x (cond b y (cond c z (cond d w false)))
+past true b c d x y z w ex ey ez ew = sym ex
+past false true c d x y z w ex ey ez ew = sym ey
+past false false true d x y z w ex ey ez ew = sym ez
+past false false false true x y z w ex ey ez ew = sym ew
+past false false false false x y z w ex ey ez ew = refl
 
 pub has-beyond : (e k : ℕ) → places ≤ k → false ≡ hasPlace e k
 unfolding hasPlace
 has-beyond e k h =
-    past (isPlain e) (isDrawn e) (isGuarded e) (isIn plainPlaces k) (isIn drawnPlaces k) (ltb k places)
-    (not-in places k plainPlaces refl h) (not-in places k drawnPlaces refl h) (le-ltb k places h)
+    past (isPlain e) (isDrawn e) (isGuarded e) (isOld e) (isIn plainPlaces k) (isIn drawnPlaces k) (leb k guardedLast)
+    (isIn oldPlaces k) (not-in places k plainPlaces refl h) (not-in places k drawnPlaces refl h)
+    (lt-leb k guardedLast (omega arith)) (not-in places k oldPlaces refl h)
 
 pub has-none : (e k : ℕ) → editions ≤ e → false ≡ hasPlace e k
 unfolding hasPlace
-has-none e k h = simp (ne-eqb e 0 (λ q. omega arith), ne-eqb e 1 (λ q. omega arith), ne-eqb e 2 (λ q. omega arith))
+has-none e k h =
+    simp (ne-eqb e 0 (λ q. omega arith), ne-eqb e 1 (λ q. omega arith), ne-eqb e 2 (λ q. omega arith), ne-eqb e 3 (λ q. omega arith))
 
 -- an edition has the place at m by m's number, and by that of m's place
 pub has-normal : (e m : ℕ) → hasPlace e m ≡ true → hasPlace e (normal m) ≡ true
@@ -89,3 +99,22 @@ has-normal e m h =
     by-number (λ m. hasPlace e m ≡ true → hasPlace e (normal m) ≡ true) m
     (λ within h. subst (λ (k : ℕ). hasPlace e k ≡ true) (sym (normal-within m within)) h)
     (λ far h. clash h (sym (has-beyond e m far))) h
+
+-- the places that are apart are the old boards' lock's alone
+all-queue : every editions (λ e. every (suc places) (λ m. implies (hasPlace e m && isApart (phaseAt m)) (isOld e))) ≡ true
+unfolding every hasPlace
+all-queue = refl
+
+pub has-queue : (e m : ℕ) → ltb e editions ≡ true → isOld e ≡ false → hasPlace e m ≡ true → isApart (phaseAt m) ≡ false
+has-queue e m small queue h = by (isApart (phaseAt m)) refl
+  where
+    by : (b : Bool) → isApart (phaseAt m) ≡ b → isApart (phaseAt m) ≡ false
+    by true far =
+        clash
+        (implied (hasPlace e (normal m) && isApart (phaseAt (normal m))) (isOld e)
+        (at-every (λ m. implies (hasPlace e m && isApart (phaseAt m)) (isOld e))
+        (every-at editions (λ e. every (suc places) (λ m. implies (hasPlace e m && isApart (phaseAt m)) (isOld e))) all-queue e
+        (ltb-true e editions small)) m)
+        (rw (has-normal e m h) (ap (λ k. isApart ((entry k) .phase)) (placed m) ∙ far)))
+        queue
+    by false near = near

@@ -3,12 +3,13 @@
 --     Phase, Role              how far a processor is on its way; what it does in the queue
 --     Entry, entry             a row of the table, and the table: number, phase, role, locked, where its act leads
 --     number, normal           the number of a place; and of the place at m, which is m unless m is no place
---     waits, spent, outside, isAway, queues       ranges of phases
+--     waits, spent, outside, isAway, isApart, queues       ranges of phases
 --     Facts, facts, factsAt    what the invariants ask of a place, by its name and by its number
 --     bears, settled           who has the token; which locked the order argument allows
 --     back-role                the roles of service and regain
 --     number-test              the number of the place at m is v exactly when m is v
 --     by-number                a law of the place at m, by whether m is one
+--     placed                   the place at m is that at its own number
 --     at-every, at-facts       a test that computes to true at each place holds at the place of any number
 use Prim.Native.Nat.{ℕ, suc, _≤_, _<_}
 use native.Mathlib.Omega.{arith}
@@ -22,12 +23,13 @@ use Rattle.choice.proofs.Tests.{clash, implies}
 use Rattle.choice.proofs.Numbers.{every-at}
 use Rattle.lock.specs.State.{Released, Locked, Preempted, RP}
 use Rattle.lock.specs.Sound.{places}
-use Rattle.lock.specs.Table.{Place, placeAt, rest, gate, clear, swap, arm, link, claim, spin, settle, inside, poll, service, back, regain, look, close, await, hand, fence, park, peek, take, lift, nowhere}
+use Rattle.lock.specs.Table.{Place, placeAt, rest, gate, clear, swap, arm, link, claim, spin, settle, inside, poll, service, back, regain, look, close, await, hand, fence, park, peek, take, lift, oldTry, oldPoll, oldService, oldFree, nowhere}
 use Rattle.lock.proofs.Ground.Places.{place-far}
 
--- not in the queue; joined and not yet in; away on an interrupt; in, or looking whom to hand on to; handing on
+-- not in the queue; joined and not yet in; away on an interrupt; in, or looking whom to hand on to; handing on; and at a place of
+-- the old boards' lock alone, which has no queue
 pub data Phase : Type 0 where
-  outer queueing away holding releasing : Phase
+  outer queueing away holding releasing apart : Phase
 
 -- not in the queue; joined and not yet linked; waits; has the lock; hands it on; has parked it
 pub data Role : Type 0 where
@@ -81,7 +83,7 @@ abbrev gone : ℕ → Bool
 gone l = isLeft l || eqb l Preempted
 
 abbrev pub entry : Place → Entry
-entry rest = at 0 outer (always out) free (0 ∷ 1 ∷ 2 ∷ [])
+entry rest = at 0 outer (always out) free (0 ∷ 1 ∷ 2 ∷ 23 ∷ [])
 entry gate = at 1 outer (always out) free (1 ∷ 2 ∷ [])
 entry clear = at 2 outer (always out) free (3 ∷ [])
 entry swap = at 3 outer (always out) free (9 ∷ 4 ∷ [])
@@ -90,7 +92,7 @@ entry link = at 5 queueing linking armed (7 ∷ 6 ∷ [])
 entry claim = at 6 queueing waiting armed (8 ∷ 7 ∷ [])
 entry spin = at 7 queueing waiting armed (9 ∷ 7 ∷ 10 ∷ [])
 entry settle = at 8 queueing (always tok) armed (9 ∷ [])
-entry inside = at 9 holding (always tok) free (14 ∷ [])
+entry inside = at 9 holding (always tok) free (14 ∷ 26 ∷ [])
 entry poll = at 10 queueing waiting armed (11 ∷ 7 ∷ [])
 entry service = at 11 away serving gone (12 ∷ [])
 entry back = at 12 away serving gone (7 ∷ 13 ∷ [])
@@ -104,7 +106,11 @@ entry park = at 19 releasing (always rel) free (20 ∷ 22 ∷ 0 ∷ 17 ∷ [])
 entry peek = at 20 releasing (always lag) free (21 ∷ 22 ∷ 0 ∷ 17 ∷ [])
 entry take = at 21 releasing (always lag) free (22 ∷ 0 ∷ 17 ∷ [])
 entry lift = at 22 releasing lifting free (0 ∷ 17 ∷ [])
-entry nowhere = at 23 outer (always out) free (23 ∷ [])
+entry oldTry = at 23 apart (always out) free (9 ∷ 24 ∷ [])
+entry oldPoll = at 24 apart (always out) free (25 ∷ 23 ∷ [])
+entry oldService = at 25 apart (always out) free (23 ∷ [])
+entry oldFree = at 26 apart (always tok) free (0 ∷ [])
+entry nowhere = at 27 outer (always out) free (27 ∷ [])
 
 abbrev pub number : Place → ℕ
 number k = (entry k) .number
@@ -121,6 +127,7 @@ waits queueing = true
 waits away = false
 waits holding = false
 waits releasing = false
+waits apart = false
 
 -- away on an interrupt
 abbrev pub isAway : Phase → Bool
@@ -129,6 +136,7 @@ isAway queueing = false
 isAway away = true
 isAway holding = false
 isAway releasing = false
+isAway apart = false
 
 -- entered, and not joined again
 abbrev pub spent : Phase → Bool
@@ -141,6 +149,16 @@ outside queueing = false
 outside away = false
 outside holding = false
 outside releasing = true
+outside apart = true
+
+-- where only the old boards' lock has one
+abbrev pub isApart : Phase → Bool
+isApart outer = false
+isApart queueing = false
+isApart away = false
+isApart holding = false
+isApart releasing = false
+isApart apart = true
 
 -- in the queue, its front holder included: who is away is, until its locked is Released
 abbrev pub queues : Phase → ℕ → Bool
@@ -237,7 +255,7 @@ number-test m v h =
     by-number (λ m. eqb (normal m) v ≡ eqb m v) m (λ within. ap (λ k. eqb k v) (normal-within m within))
     (λ far. ap (λ k. eqb k v) (normal-far m far) ∙ ne-eqb places v (omega arith) ∙ sym (ne-eqb m v (omega arith)))
 
-placed : (m : ℕ) → placeAt (normal m) ≡ placeAt m
+pub placed : (m : ℕ) → placeAt (normal m) ≡ placeAt m
 placed m =
     by-number (λ m. placeAt (normal m) ≡ placeAt m) m (λ within. ap placeAt (normal-within m within))
     (λ far. ap placeAt (normal-far m far) ∙ sym (place-far m far))
