@@ -2,7 +2,7 @@
 --     clash                    no test comes out both ways
 --     and-left, and-right      the halves of a conjunction; and-both the other way
 --     and-rest                 what a conjunction comes to whose first half holds
---     left-of, right-of        one half of a disjunction, where the other fails
+--     left-of, right-of        one half of a disjunction, where the other fails; neither-left where both fail
 --     implies, implied         a test that follows from another
 --     beq-eq                   two Bools that a test finds equal are equal
 --     by-test                  a choice has what its value has, by the test; by-either where both values have it
@@ -38,6 +38,10 @@ left-of false b e f = clash e f
 pub right-of : (a b : Bool) → a || b ≡ true → a ≡ false → b ≡ true
 right-of true b e f = clash e f
 right-of false b e f = e
+
+pub neither-left : (a b : Bool) → a || b ≡ false → a ≡ false
+neither-left true b e = e
+neither-left false b e = refl
 
 abbrev pub implies : Bool → Bool → Bool
 implies a b = not a || b

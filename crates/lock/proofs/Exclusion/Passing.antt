@@ -16,7 +16,7 @@ use Rattle.lock.specs.Sound.{places}
 use Rattle.lock.proofs.Ground.Writes.{Own, own-start, own-all, put-all, row-there, own-locked, own-nx, own-succ, own-to}
 use Rattle.lock.proofs.Ground.Facts.{rel, lag, isBearer, facts, factsAt, bears}
 use Rattle.lock.proofs.Exclusion.Token.{Sole, SoleRow, bearsRow, Excl, parked-bears, parked-left, free-locks, parked-locks, quiet}
-use Rattle.lock.proofs.Exclusion.Steps.{still, go, at, mine, settled, rest-excl, gate-excl, clear-excl, swap-excl, arm-excl, link-excl, spin-excl, settle-excl, inside-excl, poll-excl, service-excl, back-excl, regain-excl, look-excl, close-excl, await-excl, fence-excl, guard-aside}
+use Rattle.lock.proofs.Exclusion.Steps.{still, go, at, mine, settled, rest-excl, gate-excl, clear-excl, swap-excl, arm-excl, link-excl, spin-excl, settle-excl, inside-excl, poll-excl, service-excl, back-excl, regain-excl, look-excl, close-excl, await-excl, fence-excl, old-try-excl, old-poll-excl, old-service-excl, old-free-excl, guard-aside}
 use Rattle.lock.proofs.Ground.Places.{Each, begin, _▹_}
 use Rattle.lock.specs.Acts as Acts
 
@@ -243,4 +243,5 @@ acts s p x h =
     ▹ link-excl s p x h ▹ claim-excl s p x h ▹ spin-excl s p x h ▹ settle-excl s p x h ▹ inside-excl s p x h
     ▹ poll-excl s p x h ▹ service-excl s p x h ▹ back-excl s p x h ▹ regain-excl s p x h ▹ look-excl s p x h
     ▹ close-excl s p x h ▹ await-excl s p x h ▹ hand-excl s p x h ▹ fence-excl s p x h ▹ park-excl s p x h
-    ▹ peek-excl s p x h ▹ take-excl s p x h ▹ lift-excl s p x h
+    ▹ peek-excl s p x h ▹ take-excl s p x h ▹ lift-excl s p x h ▹ old-try-excl s p x h
+    ▹ old-poll-excl s p x h ▹ old-service-excl s p x h ▹ old-free-excl s p x h

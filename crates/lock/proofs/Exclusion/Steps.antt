@@ -1,5 +1,5 @@
 -- Mutual exclusion, the acts that move no token from row to row: each keeps the statement that at most one bears the
--- token. The token is made at 3 where the tail is none, and goes at 15 together with the tail.
+-- token. The token is made at 3 and 23 where the tail is none, and goes at 15 and 26 together with the tail.
 use Prim.Native.Nat.{ℕ, _<_}
 use mathlib.Core.Path.{_≡_, refl, sym, ap, subst, _∙_}
 use mathlib.Core.Bool.{Bool, true, false, _&&_, cond}
@@ -10,8 +10,8 @@ use borrow.Author.Tests.{eqb-true}
 use Rattle.lock.specs.declared.Row.{Row}
 use Rattle.lock.specs.declared.LockState.{LockState}
 use Rattle.choice.proofs.Tests.{clash, left-of, by-test, by-either}
-use Rattle.lock.specs.State.{none, isNone, isPlain, isGuarded, Released, Locked, Preempted, RP, withNext, withGuard, row, putRow, putTail, putNext, putLocked, putGuard, putFlag, to, putPred}
-use Rattle.lock.specs.Table.{Place, placeAt, rest, gate, clear, swap, arm, link, spin, settle, inside, poll, service, back, regain, look, close, await, fence}
+use Rattle.lock.specs.State.{none, isNone, isPlain, isGuarded, isOld, Released, Locked, Preempted, RP, withNext, withGuard, row, putRow, putTail, putNext, putLocked, putGuard, putFlag, to, putPred}
+use Rattle.lock.specs.Table.{Place, placeAt, rest, gate, clear, swap, arm, link, spin, settle, inside, poll, service, back, regain, look, close, await, fence, oldTry, oldPoll, oldService, oldFree}
 use Rattle.lock.proofs.Ground.Rows.{rows-put}
 use Rattle.lock.proofs.Ground.Writes.{Own, own-start, own-tail, own-all, put-all, some-row, own-flag, own-locked, own-next, own-pred, own-succ, own-to}
 use Rattle.lock.proofs.Ground.Facts.{Facts, raw, wait, tok, facts, factsAt, isBearer, bears, isLeft, back-role}
@@ -74,7 +74,9 @@ module _ (s : LockState) (p : ℕ) (x : Excl s) (room : p < length (s .rows)) wh
 
   pub rest-excl : placeAt (R .place) ≡ rest → Excl (Acts.rest s p)
   unfolding Acts.rest putFlag
-  rest-excl e = by-test Excl (R .flag) (λ g. blind p _ (λ h t q f. f) x) (λ g. to-queue e (settled e))
+  rest-excl e =
+      by-test Excl (R .flag) (λ g. blind p _ (λ h t q f. f) x)
+      (λ g. by-either Excl (isOld (s .edition)) (go _ e (λ h t f. still f (f .settled) (λ u. u))) (to-queue e (settled e)))
 
   pub gate-excl : placeAt (R .place) ≡ gate → Excl (Acts.gate s p)
   unfolding Acts.gate
@@ -102,7 +104,8 @@ module _ (s : LockState) (p : ℕ) (x : Excl s) (room : p < length (s .rows)) wh
 
   pub inside-excl : placeAt (R .place) ≡ inside → Excl (Acts.inside s p)
   unfolding Acts.inside
-  inside-excl e = go _ e (λ h t f. f)
+  inside-excl e =
+      by-either (λ k. Excl (to s p k)) (isOld (s .edition)) (go _ e (λ h t f. still f (f .settled) (λ u. u))) (go _ e (λ h t f. f))
 
   pub poll-excl : placeAt (R .place) ≡ poll → Excl (Acts.poll s p)
   unfolding Acts.poll
@@ -165,6 +168,10 @@ module _ (s : LockState) (p : ℕ) (x : Excl s) (room : p < length (s .rows)) wh
             (own-all (SoleRow h z) o own (λ q d. record { settled = (x .rows q) .settled; one = others q d }));
       }
 
+  -- where the tail is none nobody bears the token
+  unborne : isNone (s .tail) ≡ true → (q : ℕ) → bearsRow (row s q) ≡ true → ⊥
+  unborne g q u = (x .rows q) .one u .1 (eqb-true (s .tail) none g)
+
   pub swap-excl : placeAt (R .place) ≡ swap → Excl (Acts.swap s p)
   unfolding Acts.swap
   swap-excl e =
@@ -172,21 +179,48 @@ module _ (s : LockState) (p : ℕ) (x : Excl s) (room : p < length (s .rows)) wh
       (λ g.
       retail p (own-to (own-tail (own-pred (own-start s p room) _) _) _)
       (record { settled = settled e; one = λ u. (refl, there) })
-      (λ q d. λ u. absurd ((x .rows q) .one u .1 (eqb-true (s .tail) none g))))
+      (λ q d. λ u. absurd (unborne g q u)))
       (λ g.
       retail (x .bearer) (own-to (own-tail (own-pred (own-start s p room) _) _) _)
       (record { settled = settled e; one = λ u. clash u refl }) (λ q d. λ u. ((x .rows q) .one u .0, there)))
 
-  -- the token goes together with the tail
-  pub close-excl : placeAt (R .place) ≡ close → Excl (Acts.close s p)
-  unfolding Acts.close
-  close-excl e =
-      by-test Excl (eqb (s .tail) p)
+  pub old-try-excl : placeAt (R .place) ≡ oldTry → Excl (Acts.oldTry s p)
+  unfolding Acts.oldTry
+  old-try-excl e =
+      by-test Excl (isNone (s .tail))
       (λ g.
       retail p (own-to (own-tail (own-start s p room) _) _)
-      (record { settled = settled e; one = λ u. clash u refl })
-      (λ q d. λ u. absurd (d ((x .rows q) .one u .0 ∙ sym ((mine e) .one refl .0)))))
-      (λ g. go _ e (λ h t f. f))
+      (record { settled = settled e; one = λ u. (refl, there) }) (λ q d. λ u. absurd (unborne g q u)))
+      (λ g. go _ e (λ h t f. still f (f .settled) (λ u. u)))
+
+  pub old-poll-excl : placeAt (R .place) ≡ oldPoll → Excl (Acts.oldPoll s p)
+  unfolding Acts.oldPoll
+  old-poll-excl e =
+      by-test Excl (R .flag)
+      (λ g.
+      quiet x (own-to (own-flag (own-start s p room) _) _) (λ h t f. let f = at e f in still f (f .settled) (λ u. u)))
+      (λ g. go _ e (λ h t f. still f (f .settled) (λ u. u)))
+
+  pub old-service-excl : placeAt (R .place) ≡ oldService → Excl (Acts.oldService s p)
+  unfolding Acts.oldService
+  old-service-excl e = go _ e (λ h t f. still f (f .settled) (λ u. u))
+
+  -- the token goes together with the tail
+  lets-go : {a : Place} → placeAt (R .place) ≡ a → facts a ≡ facts inside → Excl (to (putTail s none) p 0)
+  lets-go e holds =
+      let f : Own-at (x .bearer) (s .tail) inside =
+      subst (λ (z : Facts). Sole (x .bearer) (s .tail) p z (R .locked) (isNone (R .nx))) holds (mine e) in
+      retail p (own-to (own-tail (own-start s p room) _) _)
+      (record { settled = f .settled; one = λ u. clash u refl })
+      (λ q d. λ u. absurd (d ((x .rows q) .one u .0 ∙ sym (f .one refl .0))))
+
+  pub close-excl : placeAt (R .place) ≡ close → Excl (Acts.close s p)
+  unfolding Acts.close
+  close-excl e = by-test Excl (eqb (s .tail) p) (λ g. lets-go e refl) (λ g. go _ e (λ h t f. f))
+
+  pub old-free-excl : placeAt (R .place) ≡ oldFree → Excl (Acts.oldFree s p)
+  unfolding Acts.oldFree
+  old-free-excl e = lets-go e refl
 
 -- a write of a next or of a guard, anybody's, is nothing to the token; it leaves p's place, and p its room
 pub record Aside (s t : LockState) (p : ℕ) : Type 0 where

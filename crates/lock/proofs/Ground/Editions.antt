@@ -11,7 +11,7 @@ use mathlib.Core.Bool.{Bool, true, false, _&&_, Bool·beq, cond}
 use mathlib.Core.List.{List, [], _∷_}
 use lib.ListN.{getD}
 use lib.Dec.{ltb, leb}
-use borrow.Author.Tests.{ltb-true, lt-leb, ne-eqb}
+use borrow.Author.Tests.{ltb-true, ltb-false, lt-leb, ne-eqb}
 use Rattle.choice.specs.Every.{every}
 use Rattle.choice.proofs.Tests.{clash, beq-eq, and-left, and-right, implies, implied}
 use Rattle.choice.proofs.Numbers.{every-at}
@@ -105,16 +105,17 @@ all-queue : every editions (λ e. every (suc places) (λ m. implies (hasPlace e 
 unfolding every hasPlace
 all-queue = refl
 
-pub has-queue : (e m : ℕ) → ltb e editions ≡ true → isOld e ≡ false → hasPlace e m ≡ true → isApart (phaseAt m) ≡ false
-has-queue e m small queue h = by (isApart (phaseAt m)) refl
+pub has-queue : (e m : ℕ) → isOld e ≡ false → hasPlace e m ≡ true → isApart (phaseAt m) ≡ false
+has-queue e m queue h = by (ltb e editions) (isApart (phaseAt m)) refl refl
   where
-    by : (b : Bool) → isApart (phaseAt m) ≡ b → isApart (phaseAt m) ≡ false
-    by true far =
+    by : (small far : Bool) → ltb e editions ≡ small → isApart (phaseAt m) ≡ far → isApart (phaseAt m) ≡ false
+    by false far i j = clash h (sym (has-none e m (ltb-false e editions i)))
+    by true false i j = j
+    by true true i j =
         clash
         (implied (hasPlace e (normal m) && isApart (phaseAt (normal m))) (isOld e)
         (at-every (λ m. implies (hasPlace e m && isApart (phaseAt m)) (isOld e))
         (every-at editions (λ e. every (suc places) (λ m. implies (hasPlace e m && isApart (phaseAt m)) (isOld e))) all-queue e
-        (ltb-true e editions small)) m)
-        (rw (has-normal e m h) (ap (λ k. isApart ((entry k) .phase)) (placed m) ∙ far)))
+        (ltb-true e editions i)) m)
+        (rw (has-normal e m h) (ap (λ k. isApart ((entry k) .phase)) (placed m) ∙ j)))
         queue
-    by false near = near

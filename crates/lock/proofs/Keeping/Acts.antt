@@ -11,44 +11,47 @@ use borrow.Author.Tests.{lt-ltb}
 use Rattle.lock.specs.declared.LockState.{LockState}
 use Rattle.choice.specs.Every.{every}
 use Rattle.choice.proofs.Tests.{by-test}
-use Rattle.lock.specs.State.{isNone, isPlain, isDrawn, isGuarded, Released, Locked, Preempted, RP, row, putRow, putTail, putNext, putLocked, putGuard, to, putPred, putSucc}
+use Rattle.lock.specs.State.{isNone, isPlain, isDrawn, isGuarded, isOld, Released, Locked, Preempted, RP, row, putRow, putTail, putNext, putLocked, putGuard, to, putPred, putSucc}
 use Rattle.lock.specs.Sound.{noneOrBelow, hasPlace, places}
 use Rattle.lock.specs.Kept.{Whole}
-use Rattle.lock.specs.Table.{Place, placeAt, act, rest, gate, clear, swap, arm, link, claim, spin, settle, inside, poll, service, back, regain, look, close, await, hand, fence, park, peek, take, lift}
+use Rattle.lock.specs.Table.{Place, placeAt, act, rest, gate, clear, swap, arm, link, claim, spin, settle, inside, poll, service, back, regain, look, close, await, hand, fence, park, peek, take, lift, oldTry, oldPoll, oldService, oldFree}
 use Rattle.lock.proofs.Keeping.Parts.{Known, Ready, standing}
 use Rattle.lock.proofs.Keeping.Puts.{put-next, put-locked, put-guard, put-flag, put-pred, put-succ, put-nx, put-tail, also, knowing, forgetting, pred-below, succ-below, suits, own-cells, lands, flag-kept}
 use Rattle.lock.proofs.Ground.Places.{Each, begin, _▹_}
 use Rattle.lock.proofs.Ground.Facts.{number}
 use Rattle.lock.specs.Acts as Acts
 
+-- what was known, and that a succ has been put
+abbrev succeeded : Known → Known
+succeeded k = record { editions = k .editions; pred = k .pred; succ = true; nx = k .nx }
+
 module _ {s : LockState} {p : ℕ} {k : Known} (x : Ready s p k) where
-  queue-kept : Whole (Acts.toQueue s p)
-  unfolding Acts.toQueue suits every hasPlace
-  queue-kept =
-      by-test (λ v. Whole (to s p v)) (isGuarded (s .edition)) (λ h. lands _ (knowing (forgetting x) isGuarded h) refl)
-      (λ h. lands _ (forgetting x) refl)
+  queue-kept : suits (also k isGuarded) 1 ≡ true → suits k 2 ≡ true → Whole (Acts.toQueue s p)
+  unfolding Acts.toQueue
+  queue-kept gated ungated =
+      by-test (λ v. Whole (to s p v)) (isGuarded (s .edition)) (λ h. lands _ (knowing x isGuarded h) gated) (λ h. lands _ x ungated)
 
-  hand-on-kept : isNone ((row s p) .next) ≡ false → Whole (Acts.toHand s p)
-  unfolding Acts.toHand putSucc putRow suits every hasPlace
-  hand-on-kept h =
-      lands _ (put-succ (forgetting x) ((row s p) .next) true (own-cells x .next) (ap not h)) refl
+  hand-on-kept : suits (succeeded k) 17 ≡ true → isNone ((row s p) .next) ≡ false → Whole (Acts.toHand s p)
+  unfolding Acts.toHand putSucc putRow
+  hand-on-kept fits h = lands _ (put-succ x ((row s p) .next) true (own-cells x .next) (ap not h)) fits
 
-  onward-kept : Whole (Acts.onward s p)
+  onward-kept : suits (succeeded k) 17 ≡ true → Whole (Acts.onward s p)
   unfolding Acts.onward putSucc putRow suits every hasPlace
-  onward-kept =
+  onward-kept fits =
       by-test Whole (isNone ((row s p) .nx)) (λ h. lands _ (forgetting x) refl)
-      (λ h. lands _ (put-succ (forgetting x) ((row s p) .nx) true (own-cells x .nx) (ap not h)) refl)
+      (λ h. lands _ (put-succ x ((row s p) .nx) true (own-cells x .nx) (ap not h)) fits)
 
   -- p itself, put into a cell
   self-fits : noneOrBelow (s .n) p ≡ true
   self-fits = rw (lt-ltb p (s .n) (x .base .below)) (or-true (isNone p))
 
   -- place 22 is the guarded edition's; the drawn edition goes onward at once
-  lift-next-kept : suits (also k (λ e. not (isDrawn e))) 22 ≡ true → Whole (Acts.toLift s p)
+  lift-next-kept :
+      suits (succeeded k) 17 ≡ true → suits (also k (λ e. not (isDrawn e))) 22 ≡ true → Whole (Acts.toLift s p)
   unfolding Acts.toLift
-  lift-next-kept fits =
-      by-test Whole (isDrawn (s .edition)) (λ h. onward-kept)
-      (λ h. lands _ (knowing x (λ e. not (isDrawn e)) (ap not h)) fits)
+  lift-next-kept on up =
+      by-test Whole (isDrawn (s .edition)) (λ h. onward-kept on)
+      (λ h. lands _ (knowing x (λ e. not (isDrawn e)) (ap not h)) up)
 
 -- p stands at the place k, and what that tells is known
 abbrev Stands : LockState → ℕ → Place → Type 0
@@ -56,8 +59,12 @@ Stands s p k = Ready s p (standing (number k))
 
 module _ {s : LockState} {p : ℕ} (w : Whole s) where
   rest-kept : Stands s p rest → Whole (Acts.rest s p)
-  unfolding Acts.rest
-  rest-kept x = by-test Whole ((row s p) .flag) (λ h. flag-kept false w (x .base .below)) (λ h. queue-kept x)
+  unfolding Acts.rest suits every hasPlace
+  rest-kept x =
+      by-test Whole ((row s p) .flag) (λ h. flag-kept false w (x .base .below))
+      (λ h.
+      by-test Whole (isOld (s .edition)) (λ o. lands _ (knowing x isOld o) refl)
+      (λ o. queue-kept (knowing x (λ e. not (isOld e)) (ap not o)) refl refl))
 
   gate-kept : Stands s p gate → Whole (Acts.gate s p)
   unfolding Acts.gate suits every hasPlace
@@ -105,7 +112,9 @@ module _ {s : LockState} {p : ℕ} (w : Whole s) where
 
   inside-kept : Stands s p inside → Whole (Acts.inside s p)
   unfolding Acts.inside suits every hasPlace
-  inside-kept x = lands _ x refl
+  inside-kept x =
+      by-test (λ v. Whole (to s p v)) (isOld (s .edition)) (λ o. lands _ (knowing x isOld o) refl)
+      (λ o. lands _ (knowing x (λ e. not (isOld e)) (ap not o)) refl)
 
   poll-kept : Stands s p poll → Whole (Acts.poll s p)
   unfolding Acts.poll putLocked putRow suits every hasPlace
@@ -128,11 +137,11 @@ module _ {s : LockState} {p : ℕ} (w : Whole s) where
   unfolding Acts.regain suits every hasPlace
   regain-kept x =
       by-test Whole (eqb ((row s p) .locked) RP)
-      (λ h. lands _ (put-locked x _ _ (x .base .below) refl) refl) (λ h. queue-kept x)
+      (λ h. lands _ (put-locked x _ _ (x .base .below) refl) refl) (λ h. queue-kept x refl refl)
 
   look-kept : Stands s p look → Whole (Acts.look s p)
   unfolding Acts.look suits every hasPlace
-  look-kept x = by-test Whole (isNone ((row s p) .next)) (λ h. lands _ x refl) (λ h. hand-on-kept x h)
+  look-kept x = by-test Whole (isNone ((row s p) .next)) (λ h. lands _ x refl) (λ h. hand-on-kept x refl h)
 
   close-kept : Stands s p close → Whole (Acts.close s p)
   unfolding Acts.close suits every hasPlace
@@ -140,8 +149,8 @@ module _ {s : LockState} {p : ℕ} (w : Whole s) where
       by-test Whole (eqb (s .tail) p) (λ h. lands _ (put-tail x _ refl) refl) (λ h. lands _ x refl)
 
   await-kept : Stands s p await → Whole (Acts.await s p)
-  unfolding Acts.await
-  await-kept x = by-test Whole (isNone ((row s p) .next)) (λ h. w) (λ h. hand-on-kept x h)
+  unfolding Acts.await suits every hasPlace
+  await-kept x = by-test Whole (isNone ((row s p) .next)) (λ h. w) (λ h. hand-on-kept x refl h)
 
   hand-kept : Stands s p hand → Whole (Acts.hand s p)
   unfolding Acts.hand suits every hasPlace
@@ -165,28 +174,46 @@ module _ {s : LockState} {p : ℕ} (w : Whole s) where
   park-kept x =
       by-test Whole (eqb ((row s ((row s p) .succ)) .locked) Preempted)
       (λ h. lands _ (put-locked x _ _ (succ-below x refl) refl) refl)
-      (λ h. lift-next-kept (put-nx x ((row s p) .succ) false (own-cells x .succ) refl) refl)
+      (λ h. lift-next-kept (put-nx x ((row s p) .succ) false (own-cells x .succ) refl) refl refl)
 
   peek-kept : Stands s p peek → Whole (Acts.peek s p)
   unfolding Acts.peek suits every hasPlace
   peek-kept x =
       let q = (row s p) .succ in
       let fits : noneOrBelow (s .n) ((row s q) .next) ≡ true = x .base .rows q .cells (succ-below x refl) .next in
-      by-test Whole (isNone ((row s q) .next)) (λ h. lift-next-kept (put-nx x ((row s q) .next) false fits refl) refl)
+      by-test Whole (isNone ((row s q) .next)) (λ h. lift-next-kept (put-nx x ((row s q) .next) false fits refl) refl refl)
       (λ h. lands _ (put-nx x ((row s q) .next) true fits (ap not h)) refl)
 
   take-kept : Stands s p take → Whole (Acts.take s p)
   unfolding Acts.take suits every hasPlace
   take-kept x =
       by-test Whole (eqb ((row s ((row s p) .succ)) .locked) RP)
-      (λ h. lift-next-kept (put-locked x _ _ (succ-below x refl) refl) refl)
-      (λ h. lift-next-kept (put-nx x _ false refl refl) refl)
+      (λ h. lift-next-kept (put-locked x _ _ (succ-below x refl) refl) refl refl)
+      (λ h. lift-next-kept (put-nx x _ false refl refl) refl refl)
 
   lift-kept : Stands s p lift → Whole (Acts.lift s p)
-  unfolding Acts.lift
+  unfolding Acts.lift suits every hasPlace
   lift-kept x =
       let c = own-cells x in
-      onward-kept {s = putGuard s _ _} (put-guard x _ _ (search c))
+      onward-kept {s = putGuard s _ _} (put-guard x _ _ (search c)) refl
+
+  old-try-kept : Stands s p oldTry → Whole (Acts.oldTry s p)
+  unfolding Acts.oldTry suits every hasPlace
+  old-try-kept x =
+      by-test Whole (isNone (s .tail)) (λ h. lands _ (put-tail x p (self-fits x)) refl) (λ h. lands _ x refl)
+
+  old-poll-kept : Stands s p oldPoll → Whole (Acts.oldPoll s p)
+  unfolding Acts.oldPoll suits every hasPlace
+  old-poll-kept x =
+      by-test Whole ((row s p) .flag) (λ h. lands _ (put-flag x _ _ (x .base .below)) refl) (λ h. lands _ x refl)
+
+  old-service-kept : Stands s p oldService → Whole (Acts.oldService s p)
+  unfolding Acts.oldService suits every hasPlace
+  old-service-kept x = lands _ x refl
+
+  old-free-kept : Stands s p oldFree → Whole (Acts.oldFree s p)
+  unfolding Acts.oldFree suits every hasPlace
+  old-free-kept x = lands _ (put-tail x _ refl) refl
 
 -- the act of each place
 pub acts : {s : LockState} {p : ℕ} → Whole s → Each (λ m. Ready s p (standing m) → Whole (act (placeAt m) s p)) places
@@ -194,4 +221,4 @@ acts w =
     begin ▹ rest-kept w ▹ gate-kept w ▹ clear-kept w ▹ swap-kept w ▹ arm-kept w ▹ link-kept w ▹ claim-kept w
     ▹ spin-kept w ▹ settle-kept w ▹ inside-kept w ▹ poll-kept w ▹ service-kept w ▹ back-kept w ▹ regain-kept w
     ▹ look-kept w ▹ close-kept w ▹ await-kept w ▹ hand-kept w ▹ fence-kept w ▹ park-kept w ▹ peek-kept w ▹ take-kept w
-    ▹ lift-kept w
+    ▹ lift-kept w ▹ old-try-kept w ▹ old-poll-kept w ▹ old-service-kept w ▹ old-free-kept w

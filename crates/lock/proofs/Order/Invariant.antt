@@ -19,12 +19,13 @@ use Rattle.lock.specs.Sound.{places, sound}
 use Rattle.lock.specs.Table.{Place, placeAt, act, stepped, swap, inside}
 use Rattle.lock.specs.Event.{raised}
 use Rattle.lock.specs.Run.{Call, after, enters, stepsOf}
-use Rattle.lock.proofs.Order.Tickets.{Tickets, noTickets, ticketed, joined, stepTickets, by-call, isMember, isOrdered}
+use Rattle.lock.proofs.Order.Tickets.{Tickets, noTickets, ticketed, joined, stepTickets, by-call, isMember, isOrdered, ordered-queue}
 use Rattle.lock.proofs.Ground.Writes.{own-start, fresh-row, own-flag}
 use Rattle.lock.proofs.Ground.Places.{Each, begin, _▹_, at-number}
 use Rattle.lock.proofs.Ground.Calls.{Accepted}
-use Rattle.lock.proofs.Ground.Facts.{Role, out, raw, wait, tok, rel, lag, facts, factsAt, number-test}
-use Rattle.lock.proofs.Keeping.Parts.{row-room}
+use Rattle.lock.proofs.Ground.Facts.{Role, out, raw, wait, tok, rel, lag, isApart, entry, facts, factsAt, number-test}
+use Rattle.lock.proofs.Ground.Editions.{has-queue}
+use Rattle.lock.proofs.Keeping.Parts.{row-room, row-has}
 use Rattle.lock.proofs.Order.Roles.{role, isQueued, swap-place, member-queued}
 use Rattle.lock.proofs.Order.Statement.{Ghost, Queued, Tok, Duty, Fencing, Fit, Holds}
 use Rattle.lock.proofs.Order.Near.{same-join, served-first}
@@ -93,6 +94,13 @@ module _ (s : LockState) (g : Tickets) (p : ℕ) (v : Holds s g) (room : p < len
       subst (λ b. Holds (Acts.swap s p) (cond b (joined g p) g)) (sym (swap-place ((row s p) .place) e))
       (swap-holds s g p v room e)
 
+  -- an ordered edition lacks the places of the old boards' lock
+  lacked : {k : Place} → isApart ((entry k) .phase) ≡ true → placeAt ((row s p) .place) ≡ k → Holds (act k s p) g
+  lacked far e =
+      let rooms = v .rooms in
+      clash (ap (λ j. isApart ((entry j) .phase)) e ∙ far)
+      (has-queue (s .edition) ((row s p) .place) (ordered-queue (s .edition) (v .ordered)) (row-has s fit p (omega arith)))
+
   acts : Each (λ m. placeAt ((row s p) .place) ≡ placeAt m → Holds (act (placeAt m) s p) (stepTickets s g p)) places
   acts =
       begin ▹ still refl (rest-holds s g p v room) ▹ still refl (gate-holds s g p v room)
@@ -106,6 +114,7 @@ module _ (s : LockState) (g : Tickets) (p : ℕ) (v : Holds s g) (room : p < len
       ▹ still refl (hand-holds s g p v room fit) ▹ still refl (λ e. fence-holds s g p v room e fit)
       ▹ still refl (park-holds s g p v room) ▹ still refl (peek-holds s g p v room)
       ▹ still refl (take-holds s g p v room) ▹ still refl (lift-holds s g p v room)
+      ▹ still refl (lacked refl) ▹ still refl (lacked refl) ▹ still refl (lacked refl) ▹ still refl (lacked refl)
 
   stepped-holds : Holds (stepped s p) (stepTickets s g p)
   unfolding stepped

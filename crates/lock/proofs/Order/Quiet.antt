@@ -9,8 +9,8 @@ use lib.ListN.{length}
 use borrow.Author.Tests.{eqb-true}
 use Rattle.lock.specs.declared.Row.{Row}
 use Rattle.lock.specs.declared.LockState.{LockState}
-use Rattle.choice.proofs.Tests.{clash, and-right, left-of, by-test}
-use Rattle.lock.specs.State.{none, isNone, isPlain, isDrawn, isGuarded, Released, Locked, Preempted, RP, row, putLocked, to, putNx}
+use Rattle.choice.proofs.Tests.{clash, and-right, left-of, by-test, by-either}
+use Rattle.lock.specs.State.{none, isNone, isPlain, isDrawn, isGuarded, isOld, Released, Locked, Preempted, RP, row, putLocked, to, putNx}
 use Rattle.lock.specs.Table.{Place, placeAt, rest, gate, clear, arm, spin, settle, inside, poll, service, back, regain}
 use Rattle.lock.proofs.Ground.Facts.{Role, facts, factsAt, back-role}
 use Rattle.lock.proofs.Order.Tickets.{Tickets, isOrdered}
@@ -95,7 +95,9 @@ module _ (s : LockState) (g : Tickets) (p : ℕ) (v : Holds s g) (room : p < len
   rest-holds e =
       by-test (λ t. Holds t g) (R .flag)
       (λ b. quiet v (own-flag (own-start s p room) _) (v .fits p))
-      (λ b. to-queue ((mine e) .settles) ((mine e) .duty) ((mine e) .fencing))
+      (λ b.
+      by-either (λ t. Holds t g) (isOld (s .edition)) (go _ (mine e))
+      (to-queue ((mine e) .settles) ((mine e) .duty) ((mine e) .fencing)))
 
   pub gate-holds : placeAt (R .place) ≡ gate → Holds (Acts.gate s p) g
   unfolding Acts.gate
@@ -155,7 +157,7 @@ module _ (s : LockState) (g : Tickets) (p : ℕ) (v : Holds s g) (room : p < len
 
   pub inside-holds : placeAt (R .place) ≡ inside → Holds (Acts.inside s p) g
   unfolding Acts.inside
-  inside-holds e = go _ (mine e)
+  inside-holds e = by-either (λ k. Holds (to s p k) g) (isOld (s .edition)) (go _ (mine e)) (go _ (mine e))
 
   -- the own row with its locked known
   locked-as :

@@ -1,6 +1,6 @@
 -- The ghost state of the order argument: joins are numbered, and each processor remembers the number of its latest join.
 -- Both are functions of the events so far.
---     isOrdered                the editions for which order is claimed
+--     isOrdered                the editions for which order is claimed; ordered-queue: not that of the old boards
 --     Tickets, ticketed        the numbers given out, and what a call makes of them
 --     by-call                  a statement of state and tickets, by what becomes of a call
 --     isMember               who stands in the queue, its front holder included
@@ -8,9 +8,10 @@ use Prim.Native.Nat.{ℕ, suc}
 use mathlib.Core.Path.{_≡_, refl, sym, subst, _∙_}
 use mathlib.Core.Bool.{Bool, true, false, cond, _&&_, _||_}
 use lib.Dec.{eqb}
-use borrow.Author.Tests.{eq-eqb}
+use borrow.Author.Tests.{eqb-true, eq-eqb}
+use Rattle.choice.proofs.Tests.{clash}
 use Rattle.lock.specs.declared.LockState.{LockState}
-use Rattle.lock.specs.State.{row, isPlain, isGuarded}
+use Rattle.lock.specs.State.{row, isPlain, isGuarded, isOld}
 use Rattle.lock.specs.Table.{stepped}
 use Rattle.lock.specs.Event.{raised}
 use Rattle.lock.specs.Run.{Call, after, stepsOf, joins}
@@ -20,6 +21,13 @@ use Rattle.lock.proofs.Ground.Facts.{phaseAt, queues}
 -- the editions for which order is claimed
 abbrev pub isOrdered : ℕ → Bool
 isOrdered e = isPlain e || isGuarded e
+
+pub ordered-queue : (e : ℕ) → isOrdered e ≡ true → isOld e ≡ false
+ordered-queue e ordered = by (isOld e) refl
+  where
+    by : (b : Bool) → isOld e ≡ b → isOld e ≡ false
+    by true is = clash (rw (eqb-true e 3 is) at ordered) refl
+    by false is = is
 
 pub record Tickets : Type 0 where
   -- how many joins there were so far

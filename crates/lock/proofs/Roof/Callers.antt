@@ -9,18 +9,19 @@ use lib.Dec.{eqb, ltb, leb}
 use borrow.Author.Tests.{ltb-false, leb-false, eqb-false}
 use Rattle.lock.specs.declared.LockState.{LockState}
 use Rattle.lock.specs.declared.Answer.{Answer}
-use Rattle.lock.specs.State.{processors, editions, isPlain, isDrawn, isGuarded, freshState}
+use Rattle.lock.specs.State.{processors, editions, isPlain, isDrawn, isGuarded, isOld, freshState}
 use Rattle.lock.specs.Event.{accepted, refused, filler, fresh}
 use Rattle.lock.specs.Run.{after, run}
 use Rattle.lock.specs.Claims.{made, answered, IsRun, CallsAreARun}
 use Rattle.lock.proofs.Waiting.Counting.{run-append}
 
--- an edition that there is is one of the three
-edition-named : (e : ℕ) → e < editions → (isPlain e || isDrawn e || isGuarded e) ≡ true
+-- an edition that there is is one of the four
+edition-named : (e : ℕ) → e < editions → (isPlain e || isDrawn e || isGuarded e || isOld e) ≡ true
 edition-named zero h = refl
 edition-named (suc zero) h = refl
 edition-named (suc (suc zero)) h = refl
-edition-named (suc (suc (suc e))) h = absurd (omega arith)
+edition-named (suc (suc (suc zero))) h = refl
+edition-named (suc (suc (suc (suc e)))) h = absurd (omega arith)
 
 -- the fresh state's answer, by the outcomes of its tests
 abbrev freshBy : Bool → Bool → Bool → LockState → Answer

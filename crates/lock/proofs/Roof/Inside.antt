@@ -1,10 +1,10 @@
 -- Never two inside, over any run, from an invariant of states that holds at fresh, is kept by every call and says so
--- of one state. Once over the edition: the plain and the guarded edition are two of the three.
+-- of one state. Once over the edition: the plain and the guarded edition are two of the four.
 use Prim.Native.Nat.{ℕ, _≤_}
 use mathlib.Core.Path.{_≡_, refl}
 use mathlib.Core.Bool.{Bool, true, false, _||_}
 use Rattle.choice.proofs.Tests.{clash}
-use Rattle.lock.specs.State.{processors, editions, isPlain, isDrawn, isGuarded, freshState}
+use Rattle.lock.specs.State.{processors, editions, isPlain, isDrawn, isGuarded, isOld, freshState}
 use Rattle.lock.specs.Run.{Call, after, run, isInside}
 use Rattle.lock.specs.Claims.{reached, Ordered, AnyEdition, NeverTwoInside, NeverTwoInsideAnyEdition}
 use mathlib.Core.List.{List, [], _∷_}
@@ -13,26 +13,28 @@ use borrow.Author.Tests.{eqb-true}
 use Rattle.lock.specs.declared.LockState.{LockState}
 
 -- an edition that is named is one of those that there are
-edition-within-by : (e : ℕ) (plain drawn guarded : Bool) → isPlain e ≡ plain → isDrawn e ≡ drawn → isGuarded e ≡ guarded
-    → (plain || drawn || guarded) ≡ true → ltb e editions ≡ true
-edition-within-by e true drawn guarded f g h k = rw (eqb-true e 0 f) refl
-edition-within-by e false true guarded f g h k = rw (eqb-true e 1 g) refl
-edition-within-by e false false true f g h k = rw (eqb-true e 2 h) refl
-edition-within-by e false false false f g h k = clash k refl
+edition-within-by : (e : ℕ) (plain drawn guarded old : Bool) → isPlain e ≡ plain → isDrawn e ≡ drawn → isGuarded e ≡ guarded
+    → isOld e ≡ old → (plain || drawn || guarded || old) ≡ true → ltb e editions ≡ true
+edition-within-by e true drawn guarded old f g h i k = rw (eqb-true e 0 f) refl
+edition-within-by e false true guarded old f g h i k = rw (eqb-true e 1 g) refl
+edition-within-by e false false true old f g h i k = rw (eqb-true e 2 h) refl
+edition-within-by e false false false true f g h i k = rw (eqb-true e 3 i) refl
+edition-within-by e false false false false f g h i k = clash k refl
 
-edition-within : (e : ℕ) → (isPlain e || isDrawn e || isGuarded e) ≡ true → ltb e editions ≡ true
-edition-within e h = edition-within-by e (isPlain e) (isDrawn e) (isGuarded e) refl refl refl h
+edition-within : (e : ℕ) → (isPlain e || isDrawn e || isGuarded e || isOld e) ≡ true → ltb e editions ≡ true
+edition-within e h = edition-within-by e (isPlain e) (isDrawn e) (isGuarded e) (isOld e) refl refl refl refl h
 
--- plain or guarded is one of the three
-ordered-any-by : (plain drawn guarded : Bool) → (plain || guarded) ≡ true → (plain || drawn || guarded) ≡ true
-ordered-any-by true drawn guarded h = refl
-ordered-any-by false true guarded h = refl
-ordered-any-by false false guarded h = h
+-- plain or guarded is one of the four
+ordered-any-by : (plain drawn guarded old : Bool) → (plain || guarded) ≡ true → (plain || drawn || guarded || old) ≡ true
+ordered-any-by true drawn guarded old h = refl
+ordered-any-by false true guarded old h = refl
+ordered-any-by false false true old h = refl
+ordered-any-by false false false old h = clash h refl
 
 ordered-any : (e n : ℕ) → Ordered e n → AnyEdition e n
 ordered-any e n h =
     record {
-      edition = ordered-any-by (isPlain e) (isDrawn e) (isGuarded e)
+      edition = ordered-any-by (isPlain e) (isDrawn e) (isGuarded e) (isOld e)
           (h .edition);
       least = h .least;
       most = h .most;

@@ -9,13 +9,13 @@ use mathlib.Core.Bool.{Bool, true, false, true≢false}
 use mathlib.Core.List.{List, [], _∷_, _++_, append-assoc}
 use lib.ListN.{length}
 use Rattle.lock.specs.declared.LockState.{LockState}
-use Rattle.lock.specs.State.{processors, freshState}
+use Rattle.lock.specs.State.{processors, isOld, freshState}
 use Rattle.lock.specs.Run.{Call, after, run, joins, enters}
 use Rattle.lock.specs.Count.{joinsIn, entriesIn, interruptsIn, allEntriesIn, latestJoin}
 use Rattle.lock.specs.Claims.{reached, Ordered, Waits, waited, NobodyLaterEnters, OthersEnterOnce, WaitsAtMost, LastJoin, NobodyOvertakes}
-use Rattle.lock.proofs.Order.Tickets.{Tickets, noTickets, ticketed, isMember, isOrdered}
+use Rattle.lock.proofs.Order.Tickets.{Tickets, noTickets, ticketed, isMember, isOrdered, ordered-queue}
 use Rattle.lock.proofs.Waiting.Counting.{run-append, ticketsOf, count-no, latest-without-joins, latest-within}
-use Rattle.lock.proofs.Waiting.Stepping.{rows-after, size-after, joins-own, joins-below}
+use Rattle.lock.proofs.Waiting.Stepping.{Queue, queue-after, rows-after, size-after, joins-own, joins-below}
 use Rattle.lock.proofs.Waiting.Staying.{StaysIn, queued-between, queued-to-entry, ticket-joined}
 use Rattle.lock.proofs.Waiting.Standing.{Standing, nobody-behind-enters, others-enter-once, entries-at-most, queued-no-entry-at}
 
@@ -38,6 +38,10 @@ fresh-rows e n = refl
 fresh-size : (e n : ℕ) → (freshState e n) .n ≡ n
 unfolding freshState
 fresh-size e n = refl
+
+fresh-edition : (e n : ℕ) → (freshState e n) .edition ≡ e
+unfolding freshState
+fresh-edition e n = refl
 
 -- one call at the end, and one in the middle
 pub run-last : (s : LockState) (cs : List Call) (c : Call) → run s (cs ++ c ∷ []) ≡ after (run s cs) c
@@ -84,6 +88,18 @@ ticketsJoined e n before join = ticketed (reached e n before) (ticketsBefore e n
 pub rows-reached : (e n : ℕ) (before : List Call) → length ((reached e n before) .rows) ≡ processors
 rows-reached e n before = rows-run (freshState e n) before (fresh-rows e n)
 
+-- an ordered edition has a queue
+queue-run : (s : LockState) (cs : List Call) → Queue s → Queue (run s cs)
+unfolding run
+queue-run s [] h = h
+queue-run s (c ∷ cs) h = queue-run (after s c) cs (queue-after s c h)
+
+queue-joined : (e n : ℕ) (before : List Call) (join : Call) → Ordered e n → Queue (joinedState e n before join)
+queue-joined e n before join ordered =
+    queue-after (reached e n before) join
+    (queue-run (freshState e n) before
+    (record { rows = fresh-rows e n; edition = ap isOld (fresh-edition e n) ∙ ordered-queue e (ordered .edition) }))
+
 size-joined : (e n : ℕ) (before : List Call) (join : Call) → (joinedState e n before join) .n ≡ n
 size-joined e n before join =
     size-after (reached e n before) join (rows-reached e n before)
@@ -104,7 +120,7 @@ last-join-queued :
     → StaysIn (joinedState e n before join) wait p
 last-join-queued e n before join wait entry p l =
     queued-to-entry (joinedState e n before join) wait entry p
-    (rows-after (reached e n before) join (rows-reached e n before))
+    (queue-joined e n before join (l .ordered))
     (subst (λ s. joinsIn s (wait ++ entry ∷ []) p ≡ 0) (run-last (freshState e n) before join) (l .last))
     (subst (λ s. enters s entry p ≡ true) (run-middle (freshState e n) before join wait) (l .entered))
 
@@ -137,7 +153,7 @@ module _
         ticket-joined (reached e n before) (ticketsBefore e n before) join p joined in
         record {
           inv = inv-after (reached e n before) (ticketsBefore e n before) join inv;
-          whole = rows-after (reached e n before) join (rows-reached e n before);
+          whole = queue-joined e n before join ordered;
           ticket = new .0;
           taken = omega (arith, new .1);
         }

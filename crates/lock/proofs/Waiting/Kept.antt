@@ -17,15 +17,16 @@ use Rattle.lock.specs.Table.{Place, placeAt}
 use Rattle.lock.proofs.Ground.Rows.{rows-put, row-put-same, row-put-other}
 use Rattle.lock.proofs.Ground.Writes.{row-put-either}
 
--- x keeps what s has: every place, every Released of a row other than p's, the number of rows, N
+-- x keeps what s has: every place, every Released of a row other than p's, the number of rows, N, the edition
 pub record Kept (s : LockState) (p : ℕ) (x : LockState) : Type 0 where
   pub places : (q : ℕ) → (row x q) .place ≡ (row s q) .place
   pub released : (q : ℕ) → q ≢ p → (row s q) .locked ≡ Released → (row x q) .locked ≡ Released
   pub rows : length (x .rows) ≡ length (s .rows)
   pub size : x .n ≡ s .n
+  pub edition : x .edition ≡ s .edition
 
 pub kept-self : {s : LockState} {p : ℕ} → Kept s p s
-kept-self = record { places = λ q. refl; released = λ q other h. h; rows = refl; size = refl }
+kept-self = record { places = λ q. refl; released = λ q other h. h; rows = refl; size = refl; edition = refl }
 
 pub kept-row : {s x : LockState} {p : ℕ} (i : ℕ) (r : Row) → Kept s p x → r .place ≡ (row x i) .place
     → (i ≢ p → (row x i) .locked ≡ Released → r .locked ≡ Released) → Kept s p (putRow x i r)
@@ -38,11 +39,12 @@ kept-row {s} {x} {p} i r k place locked =
           (λ e. locked (λ f. other (e ∙ f)) (ap (λ j. (row x j) .locked) (sym e) ∙ k .released q other h));
       rows = rows-put x i r ∙ k .rows;
       size = k .size;
+      edition = k .edition;
     }
 
 pub kept-tail : {s x : LockState} {p : ℕ} (v : ℕ) → Kept s p x → Kept s p (putTail x v)
 unfolding putTail row
-kept-tail v k = record { places = k .places; released = k .released; rows = k .rows; size = k .size }
+kept-tail v k = record { places = k .places; released = k .released; rows = k .rows; size = k .size; edition = k .edition }
 
 pub kept-next : {s x : LockState} {p : ℕ} (i v : ℕ) → Kept s p x → Kept s p (putNext x i v)
 unfolding putNext
@@ -90,6 +92,7 @@ pub record Goes (s : LockState) (p : ℕ) (ok : Place → Bool) (x : LockState) 
   pub released : (q : ℕ) → q ≢ p → (row s q) .locked ≡ Released → (row x q) .locked ≡ Released
   pub rows : length (x .rows) ≡ length (s .rows)
   pub size : x .n ≡ s .n
+  pub edition : x .edition ≡ s .edition
 
 pub goes-to :
     {s x : LockState} {p : ℕ} {ok : Place → Bool} (v : ℕ) → Kept s p x → p < length (s .rows) → ok (placeAt v) ≡ true
@@ -103,6 +106,7 @@ goes-to {s} {x} {p} {ok} v k h good =
       released = λ q other z. ap (λ w. w .locked) (row-put-other x p r q other) ∙ k .released q other z;
       rows = rows-put x p r ∙ k .rows;
       size = k .size;
+      edition = k .edition;
     }
 
 pub stays :
@@ -114,4 +118,5 @@ stays {p} {ok} k good =
       released = k .released;
       rows = k .rows;
       size = k .size;
+      edition = k .edition;
     }

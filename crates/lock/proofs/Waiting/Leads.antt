@@ -10,9 +10,9 @@ use lib.ListN.{length}
 use lib.Dec.{eqb}
 use borrow.Author.Tests.{eqb-true, eqb-false}
 use Rattle.choice.proofs.Tests.{clash, and-left, and-right, by-either, by-test}
-use Rattle.lock.specs.State.{isNone, isPlain, isDrawn, isGuarded, Released, Locked, Preempted, RP, row, putTail, putNext, to, putPred}
+use Rattle.lock.specs.State.{isNone, isPlain, isDrawn, isGuarded, isOld, Released, Locked, Preempted, RP, row, putTail, putNext, to, putPred}
 use Rattle.lock.specs.Sound.{isIn, places}
-use Rattle.lock.specs.Table.{Place, placeAt, act, rest, gate, clear, swap, arm, link, claim, spin, settle, inside, poll, service, back, regain, look, close, await, hand, fence, park, peek, take, lift}
+use Rattle.lock.specs.Table.{Place, placeAt, act, rest, gate, clear, swap, arm, link, claim, spin, settle, inside, poll, service, back, regain, look, close, await, hand, fence, park, peek, take, lift, oldTry, oldPoll, oldService, oldFree}
 use Rattle.lock.proofs.Ground.Places.{Each, begin, _▹_, at-number}
 use Rattle.lock.proofs.Ground.Facts.{entry, number}
 use Rattle.lock.proofs.Waiting.Kept.{Kept, kept-self, kept-tail, kept-next, kept-guard, kept-flag, kept-pred, kept-succ, kept-nx, kept-release, kept-own, kept-locked, Goes, goes-to, stays}
@@ -80,7 +80,8 @@ module _ (s : LockState) (p : ℕ) (there : p < length (s .rows)) (ok : Place �
   goes-rest : At rest → Led rest → Goes s p ok (Acts.rest s p)
   unfolding Acts.rest
   goes-rest here h =
-      by-either (Goes s p ok) ((row s p) .flag) (remains here h refl refl (kept-flag _ _ kept-self)) (to-queue here h refl refl)
+      by-either (Goes s p ok) ((row s p) .flag) (remains here h refl refl (kept-flag _ _ kept-self))
+      (by-either (Goes s p ok) (isOld (s .edition)) (ends here h _ refl kept-self) (to-queue here h refl refl))
 
   goes-gate : At gate → Led gate → Goes s p ok (Acts.gate s p)
   unfolding Acts.gate
@@ -125,7 +126,8 @@ module _ (s : LockState) (p : ℕ) (there : p < length (s .rows)) (ok : Place �
 
   goes-inside : At inside → Led inside → Goes s p ok (Acts.inside s p)
   unfolding Acts.inside
-  goes-inside here h = ends here h _ refl kept-self
+  goes-inside here h =
+      by-either (λ v. Goes s p ok (to s p v)) (isOld (s .edition)) (ends here h _ refl kept-self) (ends here h _ refl kept-self)
 
   goes-poll : At poll → Led poll → Goes s p ok (Acts.poll s p)
   unfolding Acts.poll
@@ -202,12 +204,30 @@ module _ (s : LockState) (p : ℕ) (there : p < length (s .rows)) (ok : Place �
   unfolding Acts.lift
   goes-lift here h = to-onward here h _ (kept-guard _ _ kept-self) refl refl
 
+  goes-old-try : At oldTry → Led oldTry → Goes s p ok (Acts.oldTry s p)
+  unfolding Acts.oldTry
+  goes-old-try here h =
+      by-either (Goes s p ok) (isNone (s .tail)) (ends here h _ refl (kept-tail _ kept-self)) (ends here h _ refl kept-self)
+
+  goes-old-poll : At oldPoll → Led oldPoll → Goes s p ok (Acts.oldPoll s p)
+  unfolding Acts.oldPoll
+  goes-old-poll here h =
+      by-either (Goes s p ok) ((row s p) .flag) (ends here h _ refl (kept-flag _ _ kept-self)) (ends here h _ refl kept-self)
+
+  goes-old-service : At oldService → Led oldService → Goes s p ok (Acts.oldService s p)
+  unfolding Acts.oldService
+  goes-old-service here h = ends here h _ refl kept-self
+
+  goes-old-free : At oldFree → Led oldFree → Goes s p ok (Acts.oldFree s p)
+  unfolding Acts.oldFree
+  goes-old-free here h = ends here h _ refl (kept-tail _ kept-self)
+
   -- the act of each place
   acts : Each (λ m. At (placeAt m) → Led (placeAt m) → Goes s p ok (act (placeAt m) s p)) places
   acts =
       begin ▹ goes-rest ▹ goes-gate ▹ goes-clear ▹ goes-swap ▹ goes-arm ▹ goes-link ▹ goes-claim ▹ goes-spin ▹ goes-settle
       ▹ goes-inside ▹ goes-poll ▹ goes-service ▹ goes-back ▹ goes-regain ▹ goes-look ▹ goes-close ▹ goes-await ▹ goes-hand
-      ▹ goes-fence ▹ goes-park ▹ goes-peek ▹ goes-take ▹ goes-lift
+      ▹ goes-fence ▹ goes-park ▹ goes-peek ▹ goes-take ▹ goes-lift ▹ goes-old-try ▹ goes-old-poll ▹ goes-old-service ▹ goes-old-free
 
   pub goes : Led (placeAt ((row s p) .place)) → Goes s p ok (act (placeAt ((row s p) .place)) s p)
   goes h =

@@ -20,9 +20,9 @@ use Rattle.lock.specs.State.{processors, row}
 use Rattle.lock.specs.Table.{Place, placeAt}
 use Rattle.lock.specs.Run.{Call, after, stepsOf, joins, enters, interrupted}
 use Rattle.lock.proofs.Order.Tickets.{isMember}
-use Rattle.lock.proofs.Ground.Facts.{Phase, outer, queueing, away, holding, releasing, waits, spent, queues, entry, number, normal, phaseAt, number-test, at-facts}
+use Rattle.lock.proofs.Ground.Facts.{Phase, outer, queueing, away, holding, releasing, apart, waits, spent, isApart, queues, entry, number, normal, phaseAt, number-test, at-facts}
 use Rattle.lock.proofs.Waiting.Leads.{allOf}
-use Rattle.lock.proofs.Waiting.Stepping.{by-step, stepping, anywhere, whoever, join-test, entry-test, interrupt-test, no-step-no-entry, joins-steps}
+use Rattle.lock.proofs.Waiting.Stepping.{Queue, not-apart, by-step, stepping, anywhere, whoever, join-test, entry-test, interrupt-test, no-step-no-entry, joins-steps}
 
 unfoldable pub isWaiting : LockState → ℕ → Bool
 isWaiting s p = waits (phaseAt ((row s p) .place))
@@ -50,24 +50,29 @@ not-entered s c q h =
     ap (λ b. stepsOf s c q && b) (sym (number-test ((row (after s c) q) .place) 9 (lit< tt)) ∙ h) ∙ and-false
     (stepsOf s c q)
 
--- the table's part: from a spent place that is not the swap one gets to spent places only, and not inside
+-- the table's part: from a spent place of a lock with a queue that is not the swap one gets to spent places only, and not inside
 abbrev out-of : Place → Bool
 out-of j = spent ((entry j) .phase) && not (eqb (number j) 9)
 
 spent-leads :
-    (m : ℕ) → spent (phaseAt m) ≡ true → eqb (normal m) 3 ≡ false → allOf out-of ((entry (placeAt m)) .leads) ≡ true
+    (m : ℕ) → spent (phaseAt m) ≡ true → isApart (phaseAt m) ≡ false → eqb (normal m) 3 ≡ false
+    → allOf out-of ((entry (placeAt m)) .leads) ≡ true
 unfolding every
-spent-leads m h other =
+spent-leads m h queue other =
     let led = allOf out-of ((entry (placeAt m)) .leads) in
     right-of (eqb (normal m) 3) led
-    (implied (spent (phaseAt m)) (eqb (normal m) 3 || led)
-    (at-facts (λ k. implies (spent ((entry k) .phase)) (eqb (number k) 3 || allOf out-of ((entry k) .leads))) refl m) h) other
+    (right-of (isApart (phaseAt m)) (eqb (normal m) 3 || led)
+    (implied (spent (phaseAt m)) (isApart (phaseAt m) || (eqb (normal m) 3 || led))
+    (at-facts
+    (λ k. implies (spent ((entry k) .phase)) (isApart ((entry k) .phase) || (eqb (number k) 3 || allOf out-of ((entry k) .leads))))
+    refl m) h) queue) other
 
 pub spent-stays :
-    (s : LockState) (c : Call) → length (s .rows) ≡ processors → (q : ℕ) → isSpent s q ≡ true → joins s c q ≡ false
+    (s : LockState) (c : Call) → Queue s → (q : ℕ) → isSpent s q ≡ true → joins s c q ≡ false
     → (isSpent (after s c) q ≡ true) × (enters s c q ≡ false)
 unfolding isSpent
-spent-stays s c whole =
+spent-stays s c queue =
+    let whole = queue .rows in
     by-step s c (λ still same q h none. (ap (λ m. spent (phaseAt m)) (same .places q) ∙ h, no-step-no-entry s c q (still q)))
     (λ k.
     whoever s c whole k
@@ -77,7 +82,7 @@ spent-stays s c whole =
     let p : ℕ = c .processor in
     let j : Place = placeAt ((row (after s c) p) .place) in
     let gone : out-of j ≡ true =
-    (stepping s c whole k out-of (spent-leads ((row s p) .place) h (join-test s c whole k false none))) .own in (
+    (stepping s c whole k out-of (spent-leads ((row s p) .place) h (not-apart s c queue k) (join-test s c whole k false none))) .own in (
       and-left (spent ((entry j) .phase)) (not (eqb (number j) 9)) gone,
       not-entered s c p (not-true (eqb (number j) 9) (and-right (spent ((entry j) .phase)) (not (eqb (number j) 9)) gone)),
     ))
@@ -150,6 +155,7 @@ waiter-is-member s q h = waits-queues (phaseAt ((row s q) .place)) h
     waits-queues away h = clash h refl
     waits-queues holding h = refl
     waits-queues releasing h = h
+    waits-queues apart h = h
 
 pub waiter-does-not-join : (s : LockState) (c : Call) (q : ℕ) → isWaiting s q ≡ true → joins s c q ≡ false
 unfolding isWaiting joins every

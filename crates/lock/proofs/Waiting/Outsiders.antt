@@ -1,4 +1,4 @@
--- Who is not a member of the queue stays so until its own join (outsider-stays). One is not a member at the places
+-- In a lock with a queue, who is not a member of it stays so until its own join (outsider-stays). One is not a member at the places
 -- outside the queue, or away on an interrupt, at 11 to 13, with locked Released. No step of another makes a Released
 -- locked anything else; an own step from outside leads outside, unless it is the swap; and one that is away and
 -- Released comes back outside.
@@ -15,10 +15,10 @@ use Rattle.lock.specs.State.{processors, isGuarded, Released, Preempted,
 use Rattle.lock.specs.Table.{Place, placeAt, act, stepped, service, back, regain}
 use Rattle.lock.specs.Run.{Call, after, joins}
 use Rattle.lock.proofs.Ground.Rows.{row-put-same}
-use Rattle.lock.proofs.Ground.Facts.{Phase, outer, queueing, away, holding, releasing, outside, isAway, queues, entry, number, normal, phaseAt, number-test, at-facts}
+use Rattle.lock.proofs.Ground.Facts.{Phase, outer, queueing, away, holding, releasing, apart, outside, isAway, isApart, queues, entry, number, normal, phaseAt, number-test, at-facts}
 use Rattle.lock.proofs.Order.Tickets.{isMember}
 use Rattle.lock.proofs.Waiting.Leads.{allOf}
-use Rattle.lock.proofs.Waiting.Stepping.{Stepped, by-step, stepping, anywhere, whoever, join-test, there}
+use Rattle.lock.proofs.Waiting.Stepping.{Queue, not-apart, Stepped, by-step, stepping, anywhere, whoever, join-test, there}
 use Rattle.lock.specs.declared.LockState.{LockState}
 use Rattle.lock.specs.Acts as Acts
 
@@ -37,6 +37,7 @@ out away l h = by (eqb l Released) refl h
     by false e h = clash refl h
 out holding l h = clash refl h
 out releasing l h = left refl
+out apart l h = left refl
 
 -- and the other way round
 outside-is-out : (f : Phase) (l : ℕ) → outside f ≡ true → queues f l ≡ false
@@ -48,6 +49,7 @@ away-is-out queueing l h e = clash h refl
 away-is-out away l h e = ap (λ l. not (eqb l Released)) e
 away-is-out holding l h e = clash h refl
 away-is-out releasing l h e = refl
+away-is-out apart l h e = refl
 
 -- x has processor p outside the queue
 abbrev IsOut : ℕ → LockState → Type 0
@@ -101,28 +103,35 @@ module _ (s : LockState) (p : ℕ) (here : p < length (s .rows)) (released : (ro
       by false false true e f g h = is 13 g out-regain
       by false false false e f g h = clash h refl
 
--- the table's part: from outside one gets outside, unless by the swap
+-- the table's part: from outside one gets outside, unless by the swap or in the old boards' lock
 abbrev is-outside : Place → Bool
 is-outside j = outside ((entry j) .phase)
 
 outside-leads :
-    (m : ℕ) → outside (phaseAt m) ≡ true → eqb (normal m) 3 ≡ false → allOf is-outside ((entry (placeAt m)) .leads) ≡ true
+    (m : ℕ) → outside (phaseAt m) ≡ true → isApart (phaseAt m) ≡ false → eqb (normal m) 3 ≡ false
+    → allOf is-outside ((entry (placeAt m)) .leads) ≡ true
 unfolding every
-outside-leads m h other =
+outside-leads m h queue other =
     let led = allOf is-outside ((entry (placeAt m)) .leads) in
     right-of (eqb (normal m) 3) led
-    (implied (outside (phaseAt m)) (eqb (normal m) 3 || led)
-    (at-facts (λ k. implies (outside ((entry k) .phase)) (eqb (number k) 3 || allOf is-outside ((entry k) .leads))) refl m)
-    h) other
+    (right-of (isApart (phaseAt m)) (eqb (normal m) 3 || led)
+    (implied (outside (phaseAt m)) (isApart (phaseAt m) || (eqb (normal m) 3 || led))
+    (at-facts
+    (λ k. implies (outside ((entry k) .phase))
+    (isApart ((entry k) .phase) || (eqb (number k) 3 || allOf is-outside ((entry k) .leads)))) refl m)
+    h) queue) other
 
-module _ (s : LockState) (c : Call) (whole : length (s .rows) ≡ processors) (k : Stepped s c) where
+module _ (s : LockState) (c : Call) (queue : Queue s) (k : Stepped s c) where
+  whole : length (s .rows) ≡ processors
+  whole = queue .rows
+
   own-outsider : Out (phaseAt ((row s (c .processor)) .place)) ((row s (c .processor)) .locked)
       → joins s c (c .processor) ≡ false → IsOut (c .processor) (after s c)
   unfolding stepped
   own-outsider (left h) none =
       let t = row (after s c) (c .processor) in
       outside-is-out (phaseAt (t .place)) (t .locked)
-      ((stepping s c whole k is-outside (outside-leads ((row s (c .processor)) .place) h
+      ((stepping s c whole k is-outside (outside-leads ((row s (c .processor)) .place) h (not-apart s c queue k)
       (join-test s c whole k false none))) .own)
   own-outsider (passed h z) none =
       subst (IsOut (c .processor)) (sym (k .act)) (out-away s (c .processor) (there s c whole k) z h)
@@ -141,13 +150,13 @@ module _ (s : LockState) (c : Call) (whole : length (s .rows) ≡ processors) (k
           (ap (λ b. outside (phaseAt ((row s q) .place)) || b) h ∙ or-true (outside (phaseAt ((row s q) .place))))
           ((anywhere s c whole k) .released q other z)
 
-pub outsider-stays : (s : LockState) (c : Call) → length (s .rows) ≡ processors
+pub outsider-stays : (s : LockState) (c : Call) → Queue s
     → (q : ℕ) → isMember s q ≡ false → joins s c q ≡ false → isMember (after s c) q ≡ false
 unfolding isMember
-outsider-stays s c whole =
+outsider-stays s c queue =
     by-step s c (λ still same q h none. ap₂ (λ m l. queues (phaseAt m) l) (same .places q) (same .locked q) ∙ h)
     (λ k.
-    whoever s c whole k (λ q. IsOut q s → joins s c q ≡ false → IsOut q (after s c))
-    (λ h none. own-outsider s c whole k
+    whoever s c (queue .rows) k (λ q. IsOut q s → joins s c q ≡ false → IsOut q (after s c))
+    (λ h none. own-outsider s c queue k
     (out (phaseAt ((row s (c .processor)) .place)) ((row s (c .processor)) .locked) h) none)
-    (λ q other idle h none. other-outsider s c whole k q other (out (phaseAt ((row s q) .place)) ((row s q) .locked) h)))
+    (λ q other idle h none. other-outsider s c queue k q other (out (phaseAt ((row s q) .place)) ((row s q) .locked) h)))

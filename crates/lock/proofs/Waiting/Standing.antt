@@ -16,7 +16,7 @@ use Rattle.lock.specs.Run.{Call, after, run, joins, enters}
 use Rattle.lock.specs.Count.{countIn, joinsIn, entriesIn, allEntriesIn}
 use Rattle.lock.proofs.Order.Tickets.{Tickets, ticketed, isMember}
 use Rattle.lock.proofs.Waiting.Counting.{count-yes, count-no, count-grows, count-there, total, total-mono, total-raised, total-bound}
-use Rattle.lock.proofs.Waiting.Stepping.{rows-after, size-after, enters-below}
+use Rattle.lock.proofs.Waiting.Stepping.{Queue, queue-after, rows-after, size-after, enters-below}
 use Rattle.lock.proofs.Waiting.Moves.{isSpent, entered-is-spent, spent-stays}
 use Rattle.lock.proofs.Waiting.Staying.{StaysIn, ticket-joined, ticket-kept, ticket-later}
 
@@ -75,7 +75,7 @@ module _
   -- p holds ticket k, which has been given out
   pub record Standing (s : LockState) (g : Tickets) (p k : ℕ) : Type 0 where
     pub inv : Inv s g
-    pub whole : length (s .rows) ≡ processors
+    pub whole : Queue s
     pub ticket : g .latest p ≡ k
     pub taken : k < g .count
 
@@ -87,7 +87,7 @@ module _
       ticket-kept s g c p none in
       record {
         inv = inv-after s g c (h .inv);
-        whole = rows-after s c (h .whole);
+        whole = queue-after s c (h .whole);
         ticket = kept .0 ∙ h .ticket;
         taken = omega (arith, kept .1, h .taken);
       }
@@ -209,7 +209,7 @@ module _
       (s : LockState) (g : Tickets) (cs : List Call) (p k : ℕ) → Standing s g p k → StaysIn s cs p → p < s .n
       → allEntriesIn s cs ≤ s .n - 1
   entries-at-most s g cs p k h w below =
-      let sum : allEntriesIn s cs ≤ total (s .n) (entriesIn s cs) = entries-total (s .n) s cs (h .whole) refl in
+      let sum : allEntriesIn s cs ≤ total (s .n) (entriesIn s cs) = entries-total (s .n) s cs (h .whole .rows) refl in
       let bound : total (s .n) (entriesIn s cs) ≤ s .n - 1 =
       total-bound (s .n) (entriesIn s cs) p (λ q. others-enter-once s g cs p k q h w)
       (queued-no-entry s cs p w) below in

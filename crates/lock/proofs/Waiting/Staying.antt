@@ -17,7 +17,7 @@ use Rattle.lock.specs.Run.{Call, after, run, joins, enters, interrupted}
 use Rattle.lock.specs.Count.{joinsIn, entriesIn, interruptsIn, between, untilEntry}
 use Rattle.lock.proofs.Order.Tickets.{Tickets, ticketed, isMember}
 use Rattle.lock.proofs.Waiting.Counting.{count-none, until-entry-has-none}
-use Rattle.lock.proofs.Waiting.Stepping.{joins-own, rows-after}
+use Rattle.lock.proofs.Waiting.Stepping.{Queue, queue-after, joins-own, rows-after}
 use Rattle.lock.proofs.Waiting.Moves.{isWaiting, isSpent, entered-is-member, entered-is-spent, spent-stays, joined-waits, waiter-stays, waiter-is-member, waiter-does-not-join}
 use Rattle.lock.proofs.Waiting.Outsiders.{outsider-stays}
 
@@ -68,7 +68,7 @@ queued-between s join later p whole h calm = queued-between-by s join later p (e
 
 -- who is spent, or not a member, does not enter without a join
 spent-no-entry :
-    (s : LockState) (cs : List Call) (entry : Call) (p : ℕ) → length (s .rows) ≡ processors → isSpent s p ≡ true
+    (s : LockState) (cs : List Call) (entry : Call) (p : ℕ) → Queue s → isSpent s p ≡ true
     → joinsIn s (cs ++ entry ∷ []) p ≡ 0 → enters (run s cs) entry p ≡ false
 unfolding run joinsIn
 spent-no-entry s [] entry p whole h none =
@@ -76,7 +76,7 @@ spent-no-entry s [] entry p whole h none =
 spent-no-entry s (c ∷ cs) entry p whole h none =
     let unjoined : (joins s c p ≡ false) × (joinsIn (after s c) (cs ++ entry ∷ []) p ≡ 0) =
     count-none (λ t d. joins t d p) s c (cs ++ entry ∷ []) none in
-    spent-no-entry (after s c) cs entry p (rows-after s c whole) ((spent-stays s c whole p h (unjoined .0)) .0)
+    spent-no-entry (after s c) cs entry p (queue-after s c whole) ((spent-stays s c whole p h (unjoined .0)) .0)
     (unjoined .1)
 
 outsider-no-entry-by :
@@ -86,7 +86,7 @@ outsider-no-entry-by s entry p true e h = absurd (true≢false (sym (entered-is-
 outsider-no-entry-by s entry p false e h = e
 
 outsider-no-entry :
-    (s : LockState) (cs : List Call) (entry : Call) (p : ℕ) → length (s .rows) ≡ processors → isMember s p ≡ false
+    (s : LockState) (cs : List Call) (entry : Call) (p : ℕ) → Queue s → isMember s p ≡ false
     → joinsIn s (cs ++ entry ∷ []) p ≡ 0 → enters (run s cs) entry p ≡ false
 unfolding run joinsIn
 outsider-no-entry s [] entry p whole h none =
@@ -95,24 +95,24 @@ outsider-no-entry s [] entry p whole h none =
 outsider-no-entry s (c ∷ cs) entry p whole h none =
     let unjoined : (joins s c p ≡ false) × (joinsIn (after s c) (cs ++ entry ∷ []) p ≡ 0) =
     count-none (λ t d. joins t d p) s c (cs ++ entry ∷ []) none in
-    outsider-no-entry (after s c) cs entry p (rows-after s c whole) (outsider-stays s c whole p h (unjoined .0))
+    outsider-no-entry (after s c) cs entry p (queue-after s c whole) (outsider-stays s c whole p h (unjoined .0))
     (unjoined .1)
 
-module _ (s : LockState) (c : Call) (cs : List Call) (entry : Call) (p : ℕ) (whole : length (s .rows) ≡ processors)
+module _ (s : LockState) (c : Call) (cs : List Call) (entry : Call) (p : ℕ) (whole : Queue s)
     (none : joinsIn (after s c) (cs ++ entry ∷ []) p ≡ 0) (entered : enters (run (after s c) cs) entry p ≡ true) where
   not-yet : (b : Bool) → enters s c p ≡ b → enters s c p ≡ false
   not-yet true e =
       absurd
-      (true≢false (sym entered ∙ spent-no-entry (after s c) cs entry p (rows-after s c whole)
+      (true≢false (sym entered ∙ spent-no-entry (after s c) cs entry p (queue-after s c whole)
       (entered-is-spent s c p e) none))
   not-yet false e = e
 
   still-in : (b : Bool) → isMember (after s c) p ≡ b → isMember (after s c) p ≡ true
   still-in true e = e
   still-in false e =
-      absurd (true≢false (sym entered ∙ outsider-no-entry (after s c) cs entry p (rows-after s c whole) e none))
+      absurd (true≢false (sym entered ∙ outsider-no-entry (after s c) cs entry p (queue-after s c whole) e none))
 
-pub queued-to-entry : (s : LockState) (cs : List Call) (entry : Call) (p : ℕ) → length (s .rows) ≡ processors
+pub queued-to-entry : (s : LockState) (cs : List Call) (entry : Call) (p : ℕ) → Queue s
     → joinsIn s (cs ++ entry ∷ []) p ≡ 0 → enters (run s cs) entry p ≡ true → StaysIn s cs p
 unfolding run joinsIn
 queued-to-entry s [] entry p whole none entered = tt
@@ -122,7 +122,7 @@ queued-to-entry s (c ∷ cs) entry p whole none entered =
       unjoined .0,
       not-yet s c cs entry p whole (unjoined .1) entered (enters s c p) refl,
       still-in s c cs entry p whole (unjoined .1) entered (isMember (after s c) p) refl,
-      queued-to-entry (after s c) cs entry p (rows-after s c whole) (unjoined .1) entered,
+      queued-to-entry (after s c) cs entry p (queue-after s c whole) (unjoined .1) entered,
     )
 
 -- ---- tickets

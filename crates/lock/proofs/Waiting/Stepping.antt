@@ -5,6 +5,8 @@
 --     whoever                  what holds of the one that steps and of every other holds of each
 --     join-test, entry-test, interrupt-test      Run's tests on the step, as tests of the places before and after
 --     rows-after, size-after   the number of rows and N stay
+--     Queue, queue-after       a state of a lock with a queue, which its rows and its edition make it; it stays one
+--     not-apart                who steps in such a state is not at a place of the old boards' lock
 --     joins-own, joins-below, enters-below     who joins is the call's own processor; who joins or enters is below N
 --     inside-by-entry          one comes to place 9 only by its own entry
 use Prim.Native.Nat.{ℕ, _<_}
@@ -16,28 +18,30 @@ use lib.Dec.{eqb, lit<}
 use borrow.Author.Tests.{eqb-true, eqb-false, eq-eqb}
 use Rattle.lock.specs.declared.LockState.{LockState}
 use Rattle.choice.specs.Every.{every}
-use Rattle.choice.proofs.Tests.{and-left, and-rest, clash}
-use Rattle.lock.specs.State.{processors, row, putRow, putFlag, withFlag}
+use Rattle.choice.proofs.Tests.{and-left, and-rest, neither-left, clash}
+use Rattle.lock.specs.State.{processors, isOld, row, putRow, putFlag, withFlag}
 use Rattle.lock.specs.Table.{Place, placeAt, stepped}
-use Rattle.lock.specs.Run.{Call, after, stepsOf, joins, enters, interrupted, isInside}
+use Rattle.lock.specs.Run.{Call, after, stepsOf, joins, enters, fromTo, interrupted, isInside}
 use Rattle.lock.specs.Event.{raised}
 use Rattle.lock.proofs.Ground.Rows.{rows-put}
 use Rattle.lock.proofs.Ground.Writes.{put-all}
 use Rattle.lock.proofs.Ground.Calls.{Accepted, Kind, idle, raise, step, kind}
-use Rattle.lock.proofs.Ground.Facts.{entry, number, number-test, at-facts}
-use Rattle.lock.proofs.Keeping.Parts.{row-room}
+use Rattle.lock.proofs.Ground.Facts.{entry, number, phaseAt, isApart, number-test, at-facts}
+use Rattle.lock.proofs.Ground.Editions.{has-queue}
+use Rattle.lock.proofs.Keeping.Parts.{row-room, row-has}
 use Rattle.lock.proofs.Waiting.Kept.{Goes}
 use Rattle.lock.proofs.Waiting.Leads.{allOf, goes}
 
--- x has the places, the locked cells, as many rows and the N of s
+-- x has the places, the locked cells, as many rows, the N and the edition of s
 pub record Same (s x : LockState) : Type 0 where
   pub places : (q : ℕ) → (row x q) .place ≡ (row s q) .place
   pub locked : (q : ℕ) → (row x q) .locked ≡ (row s q) .locked
   pub rows : length (x .rows) ≡ length (s .rows)
   pub size : x .n ≡ s .n
+  pub edition : x .edition ≡ s .edition
 
 same-self : (s : LockState) → Same s s
-same-self s = record { places = λ q. refl; locked = λ q. refl; rows = refl; size = refl }
+same-self s = record { places = λ q. refl; locked = λ q. refl; rows = refl; size = refl; edition = refl }
 
 same-raised : (s : LockState) (p : ℕ) → Same s (raised s p)
 unfolding raised putFlag putRow
@@ -47,6 +51,7 @@ same-raised s p =
       locked = put-all (λ q w. w .locked ≡ (row s q) .locked) s p (withFlag (row s p) true) (λ q. refl) refl;
       rows = rows-put s p (withFlag (row s p) true);
       size = refl;
+      edition = refl;
     }
 
 -- the call is an accepted step
@@ -120,10 +125,8 @@ module _ (s : LockState) (c : Call) (whole : length (s .rows) ≡ processors) (k
   interrupt-test h =
       ap₂ _&&_ (number-test ((row s (c .processor)) .place) 10 (lit< tt))
       (number-test ((row (after s c) (c .processor)) .place) 11 (lit< tt))
-      ∙ sym
-      (ap (λ b. b && eqb ((row s (c .processor)) .place) 10 && eqb
-      ((row (after s c) (c .processor)) .place) 11) own-step)
-      ∙ h
+      ∙ neither-left (fromTo s c (c .processor) 10 11) (fromTo s c (c .processor) 24 25)
+      (and-rest (stepsOf s c (c .processor)) (fromTo s c (c .processor) 10 11 || fromTo s c (c .processor) 24 25) false own-step h)
 
 -- ---- the number of rows and N stay
 
@@ -133,6 +136,28 @@ rows-after s c whole =
 
 pub size-after : (s : LockState) (c : Call) → length (s .rows) ≡ processors → (after s c) .n ≡ s .n
 size-after s c whole = by-step s c (λ still same. same .size) (λ k. (anywhere s c whole k) .size)
+
+-- ---- a lock with a queue
+
+-- it has its rows, and its edition is not the old boards', in which one enters without a join
+pub record Queue (s : LockState) : Type 0 where
+  pub rows : length (s .rows) ≡ processors
+  pub edition : isOld (s .edition) ≡ false
+
+pub queue-after : (s : LockState) (c : Call) → Queue s → Queue (after s c)
+queue-after s c whole =
+    record {
+      rows = rows-after s c (whole .rows);
+      edition = by-step s c (λ still same. ap isOld (same .edition) ∙ whole .edition)
+          (λ k. ap isOld ((anywhere s c (whole .rows) k) .edition) ∙ whole .edition);
+    }
+
+pub not-apart :
+    (s : LockState) (c : Call) → Queue s → Stepped s c → isApart (phaseAt ((row s (c .processor)) .place)) ≡ false
+not-apart s c whole k =
+    has-queue (s .edition) ((row s (c .processor)) .place) (whole .edition)
+    (row-has s (k .accepted .fit) (c .processor)
+    (subst (λ m. c .processor < m) (whole .rows) (there s c (whole .rows) k)))
 
 -- ---- entries
 
