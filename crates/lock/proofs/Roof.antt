@@ -4,6 +4,7 @@
 --     Inside               never two inside, from an invariant of states
 --     Callers              calls of the library are a run
 --     Claimed, Witness     the claims, and that they are sharp
+--     Old                  the old boards' lock: no joins, and what is not claimed of it
 pub mod Opened
 pub mod Computed
 pub mod Single
@@ -11,3 +12,4 @@ pub mod Inside
 pub mod Callers
 pub mod Claimed
 pub mod Witness
+pub mod Old

@@ -146,11 +146,7 @@ impl LockState {
         ensures { λ s. ⌜ s ≡ Acts.inside self p ⌝ }
     {
         let old = self.edition == LockState::OLD;
-        if old {
-            self.to(p, 26)
-        } else {
-            self.to(p, 14)
-        }
+        if old { self.to(p, 26) } else { self.to(p, 14) }
     }
 
     // Where the exchange fails the lock has just been handed over: the flag stays for the next rest.

@@ -1,6 +1,7 @@
-// Demand 3, shown as proved under its clauses' names: each function here is empty, and its contract is the claim. What the claims
-// say stands in specs/Claims.
+// Demand 3, shown as proved under its clauses' names, and what is shown of the old boards' lock: each function here is empty, and
+// its contract is the claim. What the claims say stands in specs/Claims, specs/Sharp and specs/Old.
 ghost use Rattle.lock.specs.Sharp.{ClaimsAreSharp};
+ghost use Rattle.lock.specs.Old.{OldHasNoJoins, OldOvertakes, OldHasNoBound};
 ghost use Rattle.lock.specs.Claims.{NeverTwoInside, NeverTwoInsideAnyEdition, NobodyLaterEnters, OthersEnterOnce, WaitsAtMost, NobodyOvertakes, InsideByEntry, GuardHasItsReleaser, CallsAreARun};
 
 // "two processors are never inside together"
@@ -8,7 +9,7 @@ pub fn never_two_inside()
     ensures { λ _. ⌜ NeverTwoInside ⌝ }
 {}
 
-// the drawn edition keeps that too
+// the drawn edition keeps that too, and so does the old boards' lock
 pub fn never_two_inside_any_edition()
     ensures { λ _. ⌜ NeverTwoInsideAnyEdition ⌝ }
 {}
@@ -51,4 +52,19 @@ pub fn calls_are_a_run()
 // The premises can be met, the bound is met, and one interrupt or the drawn edition is too much.
 pub fn claims_are_sharp()
     ensures { λ _. ⌜ ClaimsAreSharp ⌝ }
+{}
+
+// "this lock has no joins"
+pub fn old_has_no_joins()
+    ensures { λ _. ⌜ OldHasNoJoins ⌝ }
+{}
+
+// "a schedule showing an overtaking is kept as a test"
+pub fn old_overtakes()
+    ensures { λ _. ⌜ OldOvertakes ⌝ }
+{}
+
+// One that has tried and failed may wait through any number of entries.
+pub fn old_has_no_bound()
+    ensures { λ _. ⌜ OldHasNoBound ⌝ }
 {}

@@ -3,6 +3,7 @@
 --     ticketsOf                       the tickets after a run
 --     count-yes, count-no             one more call
 --     count-none                      where nothing is counted, not in the first call and not in the rest
+--     count-append                    a count goes on where the first part ended
 --     count-there                     what passes the test within the calls is counted
 --     until-entry-has-none            up to its first entry a processor makes none
 --     latest-without-joins            further calls without a join of q leave its latest join
@@ -68,6 +69,16 @@ module _ (test : LockState → Call → Bool) where
 
   pub count-grows : (s : LockState) (c : Call) (cs : List Call) → countIn test (after s c) cs ≤ countIn test s (c ∷ cs)
   count-grows s c cs = count-grows-by s c cs (test s c) refl
+
+  pub count-append :
+      (s : LockState) (xs ys : List Call) → countIn test s (xs ++ ys) ≡ countIn test s xs + countIn test (run s xs) ys
+  unfolding countIn run
+  count-append s [] ys = omega arith
+  count-append s (c ∷ xs) ys = by (test s c) _ _ _ (count-append (after s c) xs ys)
+    where
+      by : (b : Bool) (x y z : ℕ) → x ≡ y + z → cond b (suc x) x ≡ cond b (suc y) y + z
+      by true x y z e = omega arith
+      by false x y z e = e
 
   pub count-there :
       (s : LockState) (seen : List Call) (c : Call) (unseen : List Call) → test (run s seen) c ≡ true

@@ -4,7 +4,7 @@
 --     stepping, anywhere       the step ends where the test passes; the other rows are as Goes says
 --     whoever                  what holds of the one that steps and of every other holds of each
 --     join-test, entry-test, interrupt-test      Run's tests on the step, as tests of the places before and after
---     rows-after, size-after   the number of rows and N stay
+--     rows-after, size-after, edition-after      the number of rows, N and the edition stay
 --     Queue, queue-after       a state of a lock with a queue, which its rows and its edition make it; it stays one
 --     not-apart                who steps in such a state is not at a place of the old boards' lock
 --     joins-own, joins-below, enters-below     who joins is the call's own processor; who joins or enters is below N
@@ -128,7 +128,7 @@ module _ (s : LockState) (c : Call) (whole : length (s .rows) ≡ processors) (k
       ∙ neither-left (fromTo s c (c .processor) 10 11) (fromTo s c (c .processor) 24 25)
       (and-rest (stepsOf s c (c .processor)) (fromTo s c (c .processor) 10 11 || fromTo s c (c .processor) 24 25) false own-step h)
 
--- ---- the number of rows and N stay
+-- ---- the number of rows, N and the edition stay
 
 pub rows-after : (s : LockState) (c : Call) → length (s .rows) ≡ processors → length ((after s c) .rows) ≡ processors
 rows-after s c whole =
@@ -136,6 +136,9 @@ rows-after s c whole =
 
 pub size-after : (s : LockState) (c : Call) → length (s .rows) ≡ processors → (after s c) .n ≡ s .n
 size-after s c whole = by-step s c (λ still same. same .size) (λ k. (anywhere s c whole k) .size)
+
+pub edition-after : (s : LockState) (c : Call) → length (s .rows) ≡ processors → (after s c) .edition ≡ s .edition
+edition-after s c whole = by-step s c (λ still same. same .edition) (λ k. (anywhere s c whole k) .edition)
 
 -- ---- a lock with a queue
 
@@ -148,8 +151,7 @@ pub queue-after : (s : LockState) (c : Call) → Queue s → Queue (after s c)
 queue-after s c whole =
     record {
       rows = rows-after s c (whole .rows);
-      edition = by-step s c (λ still same. ap isOld (same .edition) ∙ whole .edition)
-          (λ k. ap isOld ((anywhere s c (whole .rows) k) .edition) ∙ whole .edition);
+      edition = ap isOld (edition-after s c (whole .rows)) ∙ whole .edition;
     }
 
 pub not-apart :
