@@ -14,10 +14,12 @@ pub struct Side {
     holds: fn(before: &Lock, after: &Lock, p: usize) -> bool,
 }
 
-const ALL: &[u8] = &[PLAIN, DRAWN, GUARDED];
+const ALL: &[u8] = &[PLAIN, DRAWN, GUARDED, OLD];
+const QUEUES: &[u8] = &[PLAIN, DRAWN, GUARDED];
 const ONLY_PLAIN: &[u8] = &[PLAIN];
 const ONLY_DRAWN: &[u8] = &[DRAWN];
 const ONLY_GUARDED: &[u8] = &[GUARDED];
+const ONLY_OLD: &[u8] = &[OLD];
 const NOT_PLAIN: &[u8] = &[DRAWN, GUARDED];
 
 type Holds = fn(&Lock, &Lock, usize) -> bool;
@@ -40,15 +42,15 @@ pub const SIDES: &[Side] = &[
     side(ALL, REST, "otherwise", |b, _, p| !b.rows[p].flag),
     side(ONLY_GUARDED, GATE, "own guard set", |b, _, p| b.rows[p].guard),
     side(ONLY_GUARDED, GATE, "otherwise", |b, _, p| !b.rows[p].guard),
-    side(ALL, CLEAR, NO_TEST, |_, _, _| true),
-    side(ALL, SWAP, "old L none", |b, _, _| b.tail == NONE),
-    side(ALL, SWAP, "otherwise", |b, _, _| b.tail != NONE),
-    side(ALL, ARM, NO_TEST, |_, _, _| true),
-    side(ALL, LINK, NO_TEST, |_, _, _| true),
+    side(QUEUES, CLEAR, NO_TEST, |_, _, _| true),
+    side(QUEUES, SWAP, "old L none", |b, _, _| b.tail == NONE),
+    side(QUEUES, SWAP, "otherwise", |b, _, _| b.tail != NONE),
+    side(QUEUES, ARM, NO_TEST, |_, _, _| true),
+    side(QUEUES, LINK, NO_TEST, |_, _, _| true),
     side(NOT_PLAIN, CLAIM, "pred's locked 3", |b, _, p| pred(b, p).locked == R_P),
     side(NOT_PLAIN, CLAIM, "otherwise", |b, _, p| pred(b, p).locked != R_P),
-    side(ALL, SPIN, "own locked 0", |b, _, p| b.rows[p].locked == RELEASED),
-    side(ALL, SPIN, "otherwise", |b, _, p| b.rows[p].locked != RELEASED),
+    side(QUEUES, SPIN, "own locked 0", |b, _, p| b.rows[p].locked == RELEASED),
+    side(QUEUES, SPIN, "otherwise", |b, _, p| b.rows[p].locked != RELEASED),
     side(NOT_PLAIN, SETTLE, NO_TEST, |_, _, _| true),
     side(ALL, INSIDE, NO_TEST, |_, _, _| true),
     side(NOT_PLAIN, POLL, "flag set, own locked 1", |b, _, p| b.rows[p].flag && b.rows[p].locked == LOCKED),
@@ -59,12 +61,12 @@ pub const SIDES: &[Side] = &[
     side(NOT_PLAIN, BACK, "otherwise", |b, _, p| b.rows[p].locked != PREEMPTED),
     side(NOT_PLAIN, REGAIN, "own locked 3", |b, _, p| b.rows[p].locked == R_P),
     side(NOT_PLAIN, REGAIN, "otherwise", |b, _, p| b.rows[p].locked != R_P),
-    side(ALL, LOOK, "own next none", |b, _, p| b.rows[p].next == NONE),
-    side(ALL, LOOK, "otherwise", |b, _, p| b.rows[p].next != NONE),
-    side(ALL, CLOSE, "L is self", |b, _, p| b.tail as usize == p),
-    side(ALL, CLOSE, "otherwise", |b, _, p| b.tail as usize != p),
-    side(ALL, AWAIT, "own next none", |b, _, p| b.rows[p].next == NONE),
-    side(ALL, AWAIT, "otherwise", |b, _, p| b.rows[p].next != NONE),
+    side(QUEUES, LOOK, "own next none", |b, _, p| b.rows[p].next == NONE),
+    side(QUEUES, LOOK, "otherwise", |b, _, p| b.rows[p].next != NONE),
+    side(QUEUES, CLOSE, "L is self", |b, _, p| b.tail as usize == p),
+    side(QUEUES, CLOSE, "otherwise", |b, _, p| b.tail as usize != p),
+    side(QUEUES, AWAIT, "own next none", |b, _, p| b.rows[p].next == NONE),
+    side(QUEUES, AWAIT, "otherwise", |b, _, p| b.rows[p].next != NONE),
     side(ONLY_PLAIN, HAND, NO_TEST, |_, _, _| true),
     side(NOT_PLAIN, HAND, "succ's locked 1", |b, _, p| succ(b, p).locked == LOCKED),
     side(NOT_PLAIN, HAND, "otherwise", |b, _, p| succ(b, p).locked != LOCKED),
@@ -83,6 +85,12 @@ pub const SIDES: &[Side] = &[
     choice(TAKE, CHOICE_OTHERWISE, |_, a, p| a.rows[p].nx != NONE),
     side(ONLY_GUARDED, LIFT, "nx none", |b, _, p| b.rows[p].nx == NONE),
     side(ONLY_GUARDED, LIFT, "otherwise", |b, _, p| b.rows[p].nx != NONE),
+    side(ONLY_OLD, TRY, "L none", |b, _, _| b.tail == NONE),
+    side(ONLY_OLD, TRY, "otherwise", |b, _, _| b.tail != NONE),
+    side(ONLY_OLD, OLD_POLL, "flag set", |b, _, p| b.rows[p].flag),
+    side(ONLY_OLD, OLD_POLL, "otherwise", |b, _, p| !b.rows[p].flag),
+    side(ONLY_OLD, OLD_SERVICE, NO_TEST, |_, _, _| true),
+    side(ONLY_OLD, FREE, NO_TEST, |_, _, _| true),
 ];
 
 /// The sides that no run from fresh can take, with the reason.

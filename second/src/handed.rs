@@ -8,7 +8,9 @@ use crate::random::{self, Random};
 use std::panic::catch_unwind;
 
 /// How many states are handed in.
-pub const TRIALS: u64 = 60_000;
+pub const TRIALS: u64 = 78_000;
+/// The first of those that are of the old edition. Before it the edition is drawn among the others.
+const FIRST_OLD: u64 = 60_000;
 /// How many of them share a printed line.
 const BLOCK: u64 = 600;
 
@@ -33,6 +35,7 @@ const PLACES_OF: [&[u8]; EDITIONS.len()] = [
     &[0, 2, 3, 4, 5, 7, 9, 14, 15, 16, 17],
     &[0, 2, 3, 4, 5, 6, 7, 8, 9, 10, 11, 12, 13, 14, 15, 16, 17, 19, 20, 21],
     &[0, 1, 2, 3, 4, 5, 6, 7, 8, 9, 10, 11, 12, 13, 14, 15, 16, 17, 18, 19, 20, 21, 22],
+    &[0, 9, 23, 24, 25, 26],
 ];
 
 /// Whether an edition in range has a place.
@@ -97,9 +100,9 @@ fn private(random: &mut Random, n: u8, needed: bool) -> u8 {
     }
 }
 
-/// A sound state.
-fn sound_state(random: &mut Random) -> Lock {
-    let edition = draw(random, EDITIONS.len() as u16);
+/// The sound state of trial t.
+fn sound_state(random: &mut Random, t: u64) -> Lock {
+    let edition = if t < FIRST_OLD { draw(random, 3) } else { OLD };
     let n = 1 + below(random, MOST);
     let tail = reference(random, n);
     let mut lock = Lock { edition, n, tail, rows: [FRESH_ROW; MOST as usize] };
@@ -187,7 +190,7 @@ fn put_near(random: &mut Random, lock: &mut Lock, cell: Cell, r: u8) {
 /// Trial t. The draws stand in the order of the page.
 pub fn trial(t: u64) -> Trial {
     let random = &mut Random { x: (t * 7919 + 29) % 2147483648 };
-    let mut lock = sound_state(random);
+    let mut lock = sound_state(random, t);
     // The event keeps to this N, whatever the damage puts into the cell.
     let n = lock.n;
     damage(random, &mut lock);

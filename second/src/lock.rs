@@ -9,8 +9,9 @@ pub const MOST: u8 = 16;
 pub const PLAIN: u8 = 0;
 pub const DRAWN: u8 = 1;
 pub const GUARDED: u8 = 2;
-pub const LAST_EDITION: u8 = GUARDED;
-pub const EDITIONS: [&str; LAST_EDITION as usize + 1] = ["plain", "drawn", "guarded"];
+pub const OLD: u8 = 3;
+pub const LAST_EDITION: u8 = OLD;
+pub const EDITIONS: [&str; LAST_EDITION as usize + 1] = ["plain", "drawn", "guarded", "old"];
 
 pub const STEP: u8 = 1;
 pub const RAISE: u8 = 2;
@@ -44,13 +45,18 @@ pub const PARK: u8 = 19;
 pub const PEEK: u8 = 20;
 pub const TAKE: u8 = 21;
 pub const LIFT: u8 = 22;
-pub const LAST_PLACE: u8 = LIFT;
+pub const TRY: u8 = 23;
+pub const OLD_POLL: u8 = 24;
+pub const OLD_SERVICE: u8 = 25;
+pub const FREE: u8 = 26;
+pub const LAST_PLACE: u8 = FREE;
 pub const PLACES: [&str; LAST_PLACE as usize + 1] = [
     "rest", "gate", "clear", "swap", "arm", "link", "claim", "spin", "settle", "inside", "poll", "service", "back",
-    "regain", "look", "close", "await", "hand", "fence", "park", "peek", "take", "lift",
+    "regain", "look", "close", "await", "hand", "fence", "park", "peek", "take", "lift", "try", "poll", "service",
+    "free",
 ];
 
-/// Refusal 6: edition over 2.
+/// Refusal 6: edition over 3.
 pub const REFUSED_EDITION: u8 = 6;
 /// Refusal 7: N is 0 or over 16.
 pub const REFUSED_N: u8 = 7;

@@ -4,7 +4,9 @@ use crate::bench;
 use crate::frame;
 
 /// How many schedules are compared.
-pub const SCHEDULES: u64 = 480;
+pub const SCHEDULES: u64 = 640;
+/// The first of those that are of the old edition. Before it the other editions take turns.
+pub const FIRST_OLD: u64 = 480;
 
 /// The generator.
 pub struct Random {
@@ -27,7 +29,7 @@ pub fn damaged(i: u64) -> bool {
 pub fn schedule(i: u64) -> Vec<u8> {
     // The remainder is taken first too, so that no i is too large to multiply.
     let mut random = Random { x: ((i % 2147483648) * 7919 + 17) % 2147483648 };
-    let edition = i % 3;
+    let edition = if i < FIRST_OLD { i % 3 } else { 3 };
     let n = if random.draw(2) == 0 { 1 + random.draw(16) } else { 2 + random.draw(3) };
     let count = if i % 40 == 38 { 6000 } else { 20 + random.draw(480) };
     let raises = random.draw(4);
@@ -39,7 +41,7 @@ pub fn schedule(i: u64) -> Vec<u8> {
     let mut edition_byte = edition;
     let mut n_byte = n;
     if damage == 1 {
-        edition_byte = 3 + random.draw(253);
+        edition_byte = 4 + random.draw(252);
     }
     if damage == 2 {
         n_byte = if random.draw(2) == 0 { 0 } else { 17 + random.draw(239) };

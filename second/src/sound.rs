@@ -39,7 +39,8 @@ fn has(edition: u8, place: u8) -> bool {
     match edition {
         PLAIN => plain,
         DRAWN => plain || matches!(place, 6 | 8 | 10..=13 | 19 | 20 | 21),
-        _ => place <= LIFT,
+        GUARDED => place <= LIFT,
+        _ => matches!(place, 0 | 9 | 23..=26),
     }
 }
 

@@ -74,7 +74,13 @@ impl Lock {
                 r[own].locked = RELEASED;
                 INSIDE
             }
-            INSIDE => LOOK,
+            INSIDE => {
+                if edition == OLD {
+                    FREE
+                } else {
+                    LOOK
+                }
+            }
             POLL => {
                 if r[own].flag && r[own].locked == LOCKED {
                     r[own].locked = PREEMPTED;
@@ -168,6 +174,27 @@ impl Lock {
                 r[succ].guard = false;
                 on_or_out(&mut r[own])
             }
+            TRY => {
+                if self.tail == NONE {
+                    self.tail = me;
+                    INSIDE
+                } else {
+                    OLD_POLL
+                }
+            }
+            OLD_POLL => {
+                if r[own].flag {
+                    r[own].flag = false;
+                    OLD_SERVICE
+                } else {
+                    TRY
+                }
+            }
+            OLD_SERVICE => TRY,
+            FREE => {
+                self.tail = NONE;
+                REST
+            }
             place => unreachable!("no place {}", place),
         };
 
@@ -176,12 +203,12 @@ impl Lock {
     }
 }
 
-/// Where a processor goes that wants to join.
+/// Where a processor goes that wants to enter.
 fn way_in(edition: u8) -> u8 {
-    if edition == GUARDED {
-        GATE
-    } else {
-        CLEAR
+    match edition {
+        GUARDED => GATE,
+        OLD => TRY,
+        _ => CLEAR,
     }
 }
 

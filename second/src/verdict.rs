@@ -9,7 +9,7 @@ use crate::random;
 #[derive(Clone, Copy)]
 pub struct Entry {
     pub processor: u8,
-    /// The line of that processor's latest join.
+    /// The line of that processor's latest join, or first try.
     pub joined: u64,
     pub line: u64,
 }
@@ -22,7 +22,7 @@ pub enum End {
     Open,
 }
 
-/// A join with its stretch.
+/// A join with its stretch. In the old edition, which has no joins, it is a first try.
 pub struct Stretch {
     pub processor: u8,
     pub joined: u64,
@@ -43,14 +43,14 @@ impl Stretch {
         self.interrupt == 0 || line < self.interrupt
     }
 
-    fn print(&self) -> String {
+    fn print(&self, word: &str) -> String {
         let (end, line) = match self.end {
             End::Entered(line) => ("entered", line),
             End::Again(line) => ("again", line),
             End::Open => ("open", 0),
         };
         let (p, joined, waited) = (self.processor, self.joined, self.entries.len());
-        let mut text = format!("join {} {} {} {} {} {}", p, joined, end, line, waited, self.interrupt);
+        let mut text = format!("{} {} {} {} {} {} {}", word, p, joined, end, line, waited, self.interrupt);
         for entry in self.overtakings() {
             text += &format!(" {} {} {}", entry.processor, entry.joined, entry.line);
         }
@@ -59,6 +59,7 @@ impl Stretch {
 }
 
 /// What a run shows.
+#[derive(Default)]
 pub struct Verdict {
     pub edition: u8,
     pub n: u8,
@@ -68,6 +69,8 @@ pub struct Verdict {
     pub stretches: Vec<Stretch>,
     /// For each processor the index of its latest stretch, and whether that stretch still goes on.
     latest: [Option<(usize, bool)>; MOST as usize],
+    /// For each processor the place where its latest step began.
+    came_from: [u8; MOST as usize],
     pub entries: u64,
     pub interrupts: u64,
     /// The most inside at once.
@@ -78,9 +81,7 @@ pub struct Verdict {
 
 impl Verdict {
     fn new() -> Verdict {
-        let (letters, stretches, unlike) = (String::new(), Vec::new(), Vec::new());
-        let latest = [None; MOST as usize];
-        Verdict { edition: 0, n: 0, line: 1, letters, stretches, latest, entries: 0, interrupts: 0, inside: 0, unlike }
+        Verdict { line: 1, came_from: [REST; MOST as usize], ..Verdict::default() }
     }
 
     fn event(&mut self, h: &Happening) {
@@ -93,11 +94,12 @@ impl Verdict {
         }
         let from = h.before.rows[h.processor as usize].place;
         let to = h.after.rows[h.processor as usize].place;
-        // The join comes before the entry: if the swap finds no one, one step is both.
-        if from == SWAP {
+        let came_from = std::mem::replace(&mut self.came_from[h.processor as usize], from);
+        // The join comes before the entry: if the swap or the first try finds no one, one step is both.
+        if from == SWAP || from == TRY && came_from == REST {
             self.join(h.processor);
         }
-        if from == POLL && to == SERVICE {
+        if matches!((from, to), (POLL, SERVICE) | (OLD_POLL, OLD_SERVICE)) {
             self.interrupt(h.processor);
         }
         if h.entry {
@@ -140,7 +142,7 @@ impl Verdict {
     fn entry(&mut self, p: u8) {
         self.entries += 1;
         self.close(p, End::Entered(self.line));
-        // Nobody enters without a join, so there is a latest stretch.
+        // Nobody enters without a join or a first try, so there is a latest stretch.
         let joined = self.latest[p as usize].map_or(0, |(latest, _)| self.stretches[latest].joined);
         // Its own stretch is closed, so those that go on are of others.
         for &(other, open) in self.latest.iter().flatten() {
@@ -162,7 +164,8 @@ impl Verdict {
 
     fn print(&self) -> String {
         let letters = if self.letters.is_empty() { "none" } else { &self.letters };
-        let stretches: String = self.stretches.iter().map(|stretch| stretch.print()).collect();
+        let word = if self.edition == OLD { "try" } else { "join" };
+        let stretches: String = self.stretches.iter().map(|stretch| stretch.print(word)).collect();
         format!("run {} {} {}\nacts {}\n{}", self.edition, self.n, self.line - 1, letters, stretches)
     }
 }
