@@ -18,6 +18,9 @@ struct Answers {
     /// Accepted steps whose act used pred, or succ, and it was the processor itself.
     own_pred: u64,
     own_succ: u64,
+    /// Accepted steps at try that find L the processor itself, and at free that find it is not: no run has these.
+    own_try: u64,
+    other_free: u64,
     /// Answers with another refusal than document 01 wants.
     other: u64,
     /// Refused events that give another state back.
@@ -29,9 +32,19 @@ struct Answers {
 
 impl Answers {
     fn new() -> Answers {
-        let given = [[[0; 2]; 2]; 2];
-        let counts = Counts::new();
-        Answers { given, raises: 0, steps: 0, own_pred: 0, own_succ: 0, other: 0, changed: 0, unsound: 0, counts }
+        Answers {
+            given: [[[0; 2]; 2]; 2],
+            raises: 0,
+            steps: 0,
+            own_pred: 0,
+            own_succ: 0,
+            own_try: 0,
+            other_free: 0,
+            other: 0,
+            changed: 0,
+            unsound: 0,
+            counts: Counts::new(),
+        }
     }
 
     fn count(&mut self, trial: &Trial, wanted: u8) {
@@ -60,6 +73,8 @@ impl Answers {
         // Arm has a pred, but its act does not use it. Look and await only set succ.
         self.own_pred += (matches!(row.place, LINK | CLAIM) && row.pred == p) as u64;
         self.own_succ += (handed::needs(row.place, Cell::Succ) && row.succ == p) as u64;
+        self.own_try += (row.place == TRY && trial.lock.tail == p) as u64;
+        self.other_free += (row.place == FREE && trial.lock.tail != p) as u64;
     }
 
     /// Which of the three refusals comes first.
@@ -93,6 +108,8 @@ impl Answers {
             ("accepted steps", self.steps),
             ("steps that used pred, and it was the processor itself", self.own_pred),
             ("steps that used succ, and it was the processor itself", self.own_succ),
+            ("steps at try, and L was the processor itself", self.own_try),
+            ("steps at free, and L was another or none", self.other_free),
         ];
         for (words, number) in may {
             report.line(&format!("{:<56}{:>6}", words, number));

@@ -150,6 +150,7 @@ pub fn print() -> (String, bool) {
     // A raise has no place; it is counted by whether the flag was clear or already set.
     let mut raises = [[0u64; 2]; EDITIONS.len()];
     let mut refusals = [0u64; 10];
+    let mut refusals_old = [0u64; 10];
     for i in 0..random::SCHEDULES {
         let (_, refusal) = bench::follow(&random::schedule(i), |h| {
             let p = h.processor as usize;
@@ -160,6 +161,7 @@ pub fn print() -> (String, bool) {
             }
         });
         refusals[refusal as usize] += 1;
+        refusals_old[refusal as usize] += (i >= random::FIRST_OLD) as u64;
     }
 
     let mut text = String::new();
@@ -188,8 +190,9 @@ pub fn print() -> (String, bool) {
             line(label, raises[edition as usize][set], None);
         }
     }
-    for (refusal, &count) in refusals.iter().enumerate().skip(1) {
-        line(format!("refusal {:<39}", refusal), count, None);
+    for refusal in 1..refusals.len() {
+        line(format!("refusal {:<39}", refusal), refusals[refusal], None);
+        line(format!("refusal {}{:<38}", refusal, ", of those made for old"), refusals_old[refusal], None);
     }
 
     text += &format!("schedules without a refusal: {} of {}\n", refusals[0], random::SCHEDULES);

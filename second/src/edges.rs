@@ -22,6 +22,8 @@ pub enum Test {
     Place,
     /// A place has what it needs in a private cell.
     Needs(u8, Cell),
+    /// A place does not need a private cell, so none and a processor are both met, and it never fails.
+    NeedsNot(u8, Cell),
     /// In a row from N on a cell is as fresh.
     Fresh(u8, Cell),
     Event,
@@ -79,6 +81,11 @@ fn meeting(lock: &Lock) -> Vec<(Test, u8)> {
         }
         note(&mut list, Test::Locked, row.locked);
         note(&mut list, Test::Place, row.place);
+        for &cell in PRIVATE_CELLS.iter().filter(|&&cell| !needs(row.place, cell)) {
+            // Which processor it is does not matter.
+            let value = if row.cell(cell) == NONE { NONE } else { 0 };
+            note(&mut list, Test::NeedsNot(row.place, cell), value);
+        }
         if PRIVATE_CELLS.iter().all(|&cell| needs(row.place, cell) == (row.cell(cell) != NONE)) {
             for &cell in PRIVATE_CELLS {
                 note(&mut list, Test::Needs(row.place, cell), 0);

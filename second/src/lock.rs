@@ -67,7 +67,7 @@ pub const REFUSED_PROCESSOR: u8 = 9;
 /// Refusal 11: the state handed in isn't sound.
 pub const REFUSED_STATE: u8 = 11;
 
-#[derive(Clone, Copy, PartialEq, Eq, Debug)]
+#[derive(Clone, Copy, PartialEq, Eq, Hash, Debug)]
 pub struct Row {
     pub next: u8,
     pub locked: u8,
@@ -82,7 +82,7 @@ pub struct Row {
 pub const FRESH_ROW: Row =
     Row { next: NONE, locked: RELEASED, guard: false, flag: false, place: REST, pred: NONE, succ: NONE, nx: NONE };
 
-#[derive(Clone, Copy, PartialEq, Eq, Debug)]
+#[derive(Clone, Copy, PartialEq, Eq, Hash, Debug)]
 pub struct Lock {
     pub edition: u8,
     pub n: u8,

@@ -10,6 +10,7 @@ mod frame;
 mod handed;
 mod lock;
 mod order;
+mod overtaking;
 mod random;
 mod reachable;
 mod report;
@@ -31,13 +32,15 @@ const USAGE: &str = "usage: second              a schedule on standard input, it
                            each side of the tests of soundness
        second verdict      who waits and who is passed over in one schedule on standard input
        second verdicts     the same for the 640 random schedules
-       second order        what the 640 random schedules show of demand 3
+       second order        what the 640 random schedules show of demand 3, and of two never being inside together
        second order one    the same for one schedule on standard input
        second reachable N  all states of N processors that can be reached from fresh, N from 1 to 3
        second shortest N   the least number of events in which the drawn edition lets a waiter of N processors that
                            takes no interrupt be passed over and then enter, or none, N from 2 to 4
        second shortest N schedule
                            a schedule of that many events
+       second shortest N old
+                           the least number of events in which the old edition of N processors shows an overtaking
 ";
 
 fn main() {
@@ -66,6 +69,7 @@ fn main() {
         },
         ["shortest", n] => shortest(n, shortest::print),
         ["shortest", n, "schedule"] => shortest(n, shortest::print_schedule),
+        ["shortest", n, "old"] => shortest(n, overtaking::print),
         _ => usage(),
     }
 }

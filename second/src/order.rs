@@ -1,4 +1,5 @@
 //! Order: what runs show of demand 3, and of two never being inside together. It is counted from the verdicts.
+//! The old edition has no joins: there it is counted of first tries, and an overtaking is allowed.
 
 use crate::lock::*;
 use crate::random;
@@ -57,18 +58,28 @@ impl Found {
         self.impossible == 0 && self.doubles == 0 && self.broken == 0
     }
 
-    fn lines(&self) -> [(&'static str, u64); 14] {
+    fn lines(&self, edition: u8) -> [(&'static str, u64); 14] {
+        let [joins, again, interrupted, impossible] = if edition == OLD {
+            [
+                "first tries",
+                "of these, tried first again",
+                "first tries with an interrupt",
+                "of these, impossible elsewhere",
+            ]
+        } else {
+            ["joins", "of these, joined again", "joins with an interrupt", "overtakings claimed impossible"]
+        };
         [
             ("schedules with a run", self.schedules),
-            ("joins", self.joins),
+            (joins, self.joins),
             ("of these, entered", self.entered),
-            ("of these, joined again", self.again),
+            (again, self.again),
             ("of these, open", self.open),
-            ("joins with an interrupt", self.interrupted),
+            (interrupted, self.interrupted),
             ("entries", self.entries),
             ("interrupts", self.interrupts),
             ("overtakings", self.overtakings),
-            ("overtakings claimed impossible", self.impossible),
+            (impossible, self.impossible),
             ("double entries", self.doubles),
             ("longest wait in entries", self.longest),
             ("waits over N - 1 entries", self.broken),
@@ -122,11 +133,11 @@ fn report(found: &[Found; EDITIONS.len()]) -> (String, bool) {
     let mut good = true;
     for (edition, f) in (PLAIN..=LAST_EDITION).zip(found).filter(|(_, f)| f.schedules > 0) {
         let name = EDITIONS[edition as usize];
-        for (words, number) in f.lines() {
+        for (words, number) in f.lines(edition) {
             text += &format!("{:<8}{:<31}{:>8}\n", name, words, number);
         }
-        // The drawn edition carries no claim of order, but in no edition two are inside together.
-        let claimed = edition != DRAWN;
+        // Drawn and old carry no claim of order, but in no edition two are inside together.
+        let claimed = edition != DRAWN && edition != OLD;
         good = good && f.inside <= 1 && (f.in_order() || !claimed);
         let words = match (f.inside <= 1, f.in_order()) {
             (false, _) => "more than one was inside at once",

@@ -62,9 +62,14 @@ fn unpack(edition: u8, n: u8, mut bits: u64) -> Lock {
     lock
 }
 
-/// The findings of each edition, and whether all is as it should be: every state is sound, and the list of
-/// sides that are not reachable is borne out. Three processors must find every other side. What three can do,
-/// more can do too.
+/// Whether L names the one processor that is inside or at free, or is none where nobody is: a rule of the old edition.
+fn names_holder(lock: &Lock) -> bool {
+    (0..).zip(&lock.rows).all(|(p, row)| matches!(row.place, INSIDE | FREE) == (lock.tail == p))
+}
+
+/// The findings of each edition, and whether all is as it should be: every state is sound, no two are inside together,
+/// in the old edition L names the holder, and the list of sides that are not reachable is borne out. Three processors
+/// must find every other side. What three can do, more can do too.
 pub fn print(n: u8) -> (String, bool) {
     let mut text = String::new();
     let mut good = true;
@@ -76,10 +81,12 @@ pub fn print(n: u8) -> (String, bool) {
         let mut to_do = vec![fresh];
         let mut unsound = 0u64;
         let mut inside = 0;
+        let mut unnamed = 0u64;
         while let Some(bits) = to_do.pop() {
             let before = unpack(edition, n, bits);
             unsound += !before.sound() as u64;
             inside = inside.max(before.rows.iter().filter(|row| row.place == INSIDE).count());
+            unnamed += (edition == OLD && !names_holder(&before)) as u64;
             for p in 0..n {
                 for event in [STEP, RAISE] {
                     let mut after = before;
@@ -96,7 +103,10 @@ pub fn print(n: u8) -> (String, bool) {
         }
         text += &format!("{:<8}N {}: {} states, ", EDITIONS[edition as usize], n, seen.len());
         text += &format!("{} of them not sound, at most {} inside at once\n", unsound, inside);
-        good = good && unsound == 0;
+        if edition == OLD {
+            text += &format!("{:<8}L is not who is at 9 or 26 in {} of them\n", EDITIONS[OLD as usize], unnamed);
+        }
+        good = good && unsound == 0 && inside <= 1 && unnamed == 0;
         for (i, side) in SIDES.iter().enumerate().filter(|(_, side)| side.editions.contains(&edition)) {
             let found = counts.taken[edition as usize][i] > 0;
             let listed = coverage::not_reachable(edition, side).is_some();

@@ -87,18 +87,26 @@ pub fn print(edges: &Edges, report: &mut Report) {
 }
 
 fn print_turns(edges: &Edges, report: &mut Report) {
+    print_turns_of(edges, report, "a single test", TURNS, |_| true);
+    // The old edition has the ranges of the others. The first turn is out: its edition is in range.
+    let turns = &TURNS[1..];
+    print_turns_of(edges, report, "in the old edition", turns, |a| a.edition == OLD);
+    report.line("N not 0 is alone only where L is none and all rows are fresh: with N 0 every row is one from N on");
+}
+
+fn print_turns_of(edges: &Edges, report: &mut Report, head: &str, turns: &[Turn], counted: fn(&Asked) -> bool) {
     report.line("");
-    report.line("a single test           alone    of these at    just met at");
-    for turn in TURNS {
-        let alone = edges.alone.count(|a| a.test == turn.test);
-        let beside = edges.alone.count(|a| a.test == turn.test && turn.fails.is(a));
-        let met = edges.met.count(|a| a.test == turn.test && turn.meets.is(a));
+    report.line(&format!("{:<24}alone    of these at    just met at", head));
+    for turn in turns {
+        let asked = |a: &Asked| a.test == turn.test && counted(a);
+        let alone = edges.alone.count(asked);
+        let beside = edges.alone.count(|a| asked(a) && turn.fails.is(a));
+        let met = edges.met.count(|a| asked(a) && turn.meets.is(a));
         let (fails, meets) = (turn.fails.words(), turn.meets.words());
         report.line(&format!("{:<22}{:>7}  {:>5}{:>8}  {:>6}{:>8}", turn.words, alone, fails, beside, meets, met));
-        report.demand(beside, LEAST, &format!("{}, alone at {}", turn.words, fails));
-        report.demand(met, LEAST, &format!("{}, just met at {}", turn.words, meets));
+        report.demand(beside, LEAST, &format!("{}, {}, alone at {}", head, turn.words, fails));
+        report.demand(met, LEAST, &format!("{}, {}, just met at {}", head, turn.words, meets));
     }
-    report.line("N not 0 is alone only where L is none and all rows are fresh: with N 0 every row is one from N on");
 }
 
 /// The head of a table with a column for each edition.
@@ -162,6 +170,7 @@ fn print_needs(edges: &Edges, report: &mut Report) {
     }
     report.line("never alone: the edition has not the place, so the test of the place fails too");
     print_not_needed(edges, report);
+    print_old_needs_nothing(edges, report);
 }
 
 /// Every place that an edition has stands in some sound state without the private cells it does not need.
@@ -181,6 +190,27 @@ fn print_not_needed(edges: &Edges, report: &mut Report) {
         "each place of each edition, met with what it needs and no other private cell: {} or more",
         least
     ));
+}
+
+/// The places of the old edition need no private cell.
+fn print_old_needs_nothing(edges: &Edges, report: &mut Report) {
+    report.line("");
+    report.line("what the places of the old edition need not: met without it, and met with it");
+    let heads: String = PRIVATE_CELLS.iter().map(|cell| format!("{:>26}", cell.name())).collect();
+    report.line(&format!("{:<16}{}", "", heads));
+    for place in (REST..=LAST_PLACE).filter(|&place| edition_has(OLD, place)) {
+        let mut line = format!("{:<16}", place_words(place));
+        for &cell in PRIVATE_CELLS {
+            for (value, side) in [(NONE, "without"), (0, "with")] {
+                let wanted = |a: &Asked| a.edition == OLD && a.test == Test::NeedsNot(place, cell) && a.value == value;
+                let met = edges.met.count(wanted);
+                line += &format!("{:>6} {}", met, side);
+                let words = format!("{} of the old edition, {} {}", place_words(place), side, cell.name());
+                report.demand(met, LEAST, &words);
+            }
+        }
+        report.line(&line);
+    }
 }
 
 const LAST_ROW: u8 = MOST - 1;
