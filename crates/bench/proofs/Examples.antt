@@ -4,7 +4,7 @@
 --     header-alone     no events
 --     refused          processor 1 of 1 at line 3: refusal 9, and nothing after it
 --     torn             a last line that is cut short: refusal 2 at line 3
---     first-refused    edition 3: the refusal alone
+--     first-refused    edition 4: the refusal alone
 --     raised-inside    a raise while inside: the flag is marked, and no entry
 -- and what is heard of them, so that each premise of `EveryLogIsARun` is seen to be met:
 --     worked-heard     three calls, and no refusal
@@ -47,13 +47,13 @@ record Examples : Type 0 where
   header-alone : logOf (bytes "010001FE\n") ≡ bytes "010001FE\n040000FC\n"
   refused : logOf (bytes "010001FE\n020100FD\n020101FC\n020100FD\n") ≡ bytes "010001FE\n030002FF00FF00FD\n05090003EF\n"
   torn : logOf (bytes "010001FE\n020100FD\n0201") ≡ bytes "010001FE\n030002FF00FF00FD\n05020003F6\n"
-  first-refused : logOf (bytes "010301FB\n020100FD\n") ≡ bytes "05060001F4\n"
+  first-refused : logOf (bytes "010401FA\n020100FD\n") ≡ bytes "05060001F4\n"
   raised-inside : logOf (bytes "010001FE\n020100FD\n020100FD\n020100FD\n020200FC\n")
       ≡ bytes "010001FE\n030002FF00FF00FD\n030003FF00FF00FC\n0300090000FF04F1\n0300090000FF01F4\n040004F8\n"
   worked-heard : Hears "010001FE\n020100FD\n020100FD\n020100FD\n" (step ∷ step ∷ step ∷ []) 0
   refused-heard : Hears "010001FE\n020100FD\n020101FC\n020100FD\n" (step ∷ []) 9
   torn-heard : Hears "010001FE\n020100FD\n0201" (step ∷ []) 2
-  first-unheard : firstRefusal (bytes "010301FB\n020100FD\n") ≡ 6
+  first-unheard : firstRefusal (bytes "010401FA\n020100FD\n") ≡ 6
 
 computed : Examples
 unfolding bytes Opened.computed fresh valueOf digitOf pairAt pairsFrom sumOf checkOf isTorn areDigits readAs digitsOf
