@@ -324,7 +324,7 @@ impl LockState {
         if own.flag {
             self.put_flag(p, false).to(p, 25)
         } else {
-            self.to(p, 23)
+            self.to(p, 23) // and tries again
         }
     }
 
