@@ -2,19 +2,21 @@
 -- act lead that it passes the place where the act ends. A new row of the step table is a law of its act here.
 --     allOf            the test passes each place of a list of numbers
 --     goes             a step of p ends where the test passes; the other rows are as Goes says
-use Prim.Native.Nat.{ℕ, _<_}
+--     unjoined-leads   where the act of a place leads that is neither the swap nor one of the old boards' lock, by one computed test
+use Prim.Native.Nat.{ℕ, suc, _<_}
 use mathlib.Core.Path.{_≡_, refl, sym, ap, _∙_}
 use mathlib.Core.Bool.{Bool, true, false, _&&_, _||_}
 use mathlib.Core.List.{List, [], _∷_}
 use lib.ListN.{length}
 use lib.Dec.{eqb}
 use borrow.Author.Tests.{eqb-true, eqb-false}
-use Rattle.choice.proofs.Tests.{clash, and-left, and-right, by-either, by-test}
+use Rattle.choice.specs.Every.{every}
+use Rattle.choice.proofs.Tests.{clash, and-left, and-right, right-of, implies, implied, by-either, by-test}
 use Rattle.lock.specs.State.{isNone, isPlain, isDrawn, isGuarded, isOld, Released, Locked, Preempted, RP, row, putTail, putNext, to, putPred}
 use Rattle.lock.specs.Sound.{isIn, places}
 use Rattle.lock.specs.Table.{Place, placeAt, act, rest, gate, clear, swap, arm, link, claim, spin, settle, inside, poll, service, back, regain, look, close, await, hand, fence, park, peek, take, lift, oldTry, oldPoll, oldService, oldFree}
 use Rattle.lock.proofs.Ground.Places.{Each, begin, _▹_, at-number}
-use Rattle.lock.proofs.Ground.Facts.{entry, number}
+use Rattle.lock.proofs.Ground.Facts.{Phase, entry, number, normal, phaseAt, isApart, at-facts}
 use Rattle.lock.proofs.Waiting.Kept.{Kept, kept-self, kept-tail, kept-next, kept-guard, kept-flag, kept-pred, kept-succ, kept-nx, kept-release, kept-own, kept-locked, Goes, goes-to, stays}
 use Rattle.lock.specs.declared.LockState.{LockState}
 use Rattle.lock.specs.Acts as Acts
@@ -34,6 +36,21 @@ in-by ok m v led more false e h i later = later (and-right (ok (placeAt m)) led 
 in-all : (ok : Place → Bool) (ms : List ℕ) → allOf ok ms ≡ true → (v : ℕ) → isIn ms v ≡ true → ok (placeAt v) ≡ true
 in-all ok [] h v i = clash i refl
 in-all ok (m ∷ ms) h v i = in-by ok m v (allOf ok ms) (isIn ms v) (eqb m v) refl h i (λ h i. in-all ok ms h v i)
+
+pub unjoined-leads :
+    (from : Phase → Bool) (ok : Place → Bool)
+    → every (suc places)
+    (λ m. implies (from (phaseAt m)) (isApart (phaseAt m) || (eqb (normal m) 3 || allOf ok ((entry (placeAt m)) .leads)))) ≡ true
+    → (m : ℕ) → from (phaseAt m) ≡ true → isApart (phaseAt m) ≡ false → eqb (normal m) 3 ≡ false
+    → allOf ok ((entry (placeAt m)) .leads) ≡ true
+unjoined-leads from ok e m h queue other =
+    let led = allOf ok ((entry (placeAt m)) .leads) in
+    right-of (eqb (normal m) 3) led
+    (right-of (isApart (phaseAt m)) (eqb (normal m) 3 || led)
+    (implied (from (phaseAt m)) (isApart (phaseAt m) || (eqb (normal m) 3 || led))
+    (at-facts
+    (λ k. implies (from ((entry k) .phase)) (isApart ((entry k) .phase) || (eqb (number k) 3 || allOf ok ((entry k) .leads)))) e m)
+    h) queue) other
 
 module _ (s : LockState) (p : ℕ) (there : p < length (s .rows)) (ok : Place → Bool) where
   -- the law of the act of a place: p stands there, and the test passes wherever the table lets the act lead

@@ -21,7 +21,7 @@ use Rattle.lock.specs.Table.{Place, placeAt}
 use Rattle.lock.specs.Run.{Call, after, stepsOf, joins, enters, interrupted}
 use Rattle.lock.proofs.Order.Tickets.{isMember}
 use Rattle.lock.proofs.Ground.Facts.{Phase, outer, queueing, away, holding, releasing, apart, waits, spent, isApart, queues, entry, number, normal, phaseAt, number-test, at-facts}
-use Rattle.lock.proofs.Waiting.Leads.{allOf}
+use Rattle.lock.proofs.Waiting.Leads.{allOf, unjoined-leads}
 use Rattle.lock.proofs.Waiting.Stepping.{Queue, not-apart, by-step, stepping, anywhere, whoever, join-test, entry-test, interrupt-test, no-step-no-entry, joins-steps}
 
 unfoldable pub isWaiting : LockState → ℕ → Bool
@@ -58,14 +58,7 @@ spent-leads :
     (m : ℕ) → spent (phaseAt m) ≡ true → isApart (phaseAt m) ≡ false → eqb (normal m) 3 ≡ false
     → allOf out-of ((entry (placeAt m)) .leads) ≡ true
 unfolding every
-spent-leads m h queue other =
-    let led = allOf out-of ((entry (placeAt m)) .leads) in
-    right-of (eqb (normal m) 3) led
-    (right-of (isApart (phaseAt m)) (eqb (normal m) 3 || led)
-    (implied (spent (phaseAt m)) (isApart (phaseAt m) || (eqb (normal m) 3 || led))
-    (at-facts
-    (λ k. implies (spent ((entry k) .phase)) (isApart ((entry k) .phase) || (eqb (number k) 3 || allOf out-of ((entry k) .leads))))
-    refl m) h) queue) other
+spent-leads = unjoined-leads spent out-of refl
 
 pub spent-stays :
     (s : LockState) (c : Call) → Queue s → (q : ℕ) → isSpent s q ≡ true → joins s c q ≡ false

@@ -10,14 +10,14 @@ use lib.ListN.{length}
 use lib.Dec.{eqb, lit<}
 use borrow.Author.Tests.{eqb-true}
 use Rattle.choice.specs.Every.{every}
-use Rattle.choice.proofs.Tests.{clash, implies, implied, right-of, by-test, by-either}
+use Rattle.choice.proofs.Tests.{clash, implies, implied, by-test, by-either}
 use Rattle.lock.specs.State.{processors, isGuarded, Released, Preempted, RP, row, to, withPlace}
 use Rattle.lock.specs.Table.{Place, placeAt, act, stepped, service, back, regain}
 use Rattle.lock.specs.Run.{Call, after, joins}
 use Rattle.lock.proofs.Ground.Rows.{row-put-same}
 use Rattle.lock.proofs.Ground.Facts.{Phase, outer, queueing, away, holding, releasing, apart, outside, isAway, isApart, queues, entry, number, normal, phaseAt, number-test, at-facts}
 use Rattle.lock.proofs.Order.Tickets.{isMember}
-use Rattle.lock.proofs.Waiting.Leads.{allOf}
+use Rattle.lock.proofs.Waiting.Leads.{allOf, unjoined-leads}
 use Rattle.lock.proofs.Waiting.Stepping.{Queue, not-apart, Stepped, by-step, stepping, anywhere, whoever, join-test, there}
 use Rattle.lock.specs.declared.LockState.{LockState}
 use Rattle.lock.specs.Acts as Acts
@@ -111,15 +111,7 @@ outside-leads :
     (m : ℕ) → outside (phaseAt m) ≡ true → isApart (phaseAt m) ≡ false → eqb (normal m) 3 ≡ false
     → allOf is-outside ((entry (placeAt m)) .leads) ≡ true
 unfolding every
-outside-leads m h queue other =
-    let led = allOf is-outside ((entry (placeAt m)) .leads) in
-    right-of (eqb (normal m) 3) led
-    (right-of (isApart (phaseAt m)) (eqb (normal m) 3 || led)
-    (implied (outside (phaseAt m)) (isApart (phaseAt m) || (eqb (normal m) 3 || led))
-    (at-facts
-    (λ k. implies (outside ((entry k) .phase))
-    (isApart ((entry k) .phase) || (eqb (number k) 3 || allOf is-outside ((entry k) .leads)))) refl m)
-    h) queue) other
+outside-leads = unjoined-leads outside is-outside refl
 
 module _ (s : LockState) (c : Call) (queue : Queue s) (k : Stepped s c) where
   whole : length (s .rows) ≡ processors
