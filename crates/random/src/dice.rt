@@ -6,9 +6,10 @@ pub struct Dice {
 }
 
 impl Dice {
+    // for schedule or trial i; the bounds are past all of these numbers, and keep the sum within its type
     pub fn seeded(i: u64, more: u64) -> Dice {
         Dice {
-            x: (i % 65536 * 7919 + more % 65536) % 2147483648,
+            x: (i % 1048576 * 7919 + more % 65536) % 2147483648,
             got: 0,
         }
     }

@@ -7,9 +7,12 @@ use lock::LockState;
 use lock::Row;
 
 // The trials are told in so many blocks, with so many trials in each.
-pub const BLOCKS: u64 = 100;
+pub const BLOCKS: u64 = 130;
 
 const EACH: u64 = 600;
+
+// The trials from this one on are of edition 3.
+const OLD_FROM: u64 = 60000;
 
 // How many events of a block were accepted, and the answers' digest.
 pub struct Block {
@@ -31,8 +34,7 @@ pub fn trials(number: u64) -> Block {
 }
 
 fn trial(b: Block, t: u64) -> Block {
-    let seeded = Dice::seeded(t, 29);
-    let e = seeded.roll(state::EDITIONS);
+    let e = edition(Dice::seeded(t, 29), t);
     let size = e.roll(16);
     let n = (size.got % 16 + 1) as u8;
     let made = damage::damaged((e.got % 256) as u8, n, size);
@@ -46,6 +48,14 @@ fn trial(b: Block, t: u64) -> Block {
         accepted: b.accepted % 65536 + bit(refusal == 0) as u64,
         digest: digest(dice::mixed(b.digest, refusal), after),
     }
+}
+
+// the edition, in `got`: one with a queue is drawn, edition 3 is given
+fn edition(d: Dice, t: u64) -> Dice {
+    if t < OLD_FROM {
+        return d.roll(state::OLD);
+    }
+    d.giving(state::OLD)
 }
 
 // the event, in `got`

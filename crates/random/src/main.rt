@@ -10,6 +10,8 @@ mod text;
 
 use libc::STDOUT_FILENO;
 
+const SCHEDULES: u64 = 640;
+
 fn main() {
     // 54,010 bytes for a schedule that is too long.
     let mut schedule = [0u8; 54010];
@@ -20,7 +22,7 @@ fn main() {
 
 fn schedules(schedule: &mut [u8], log: &mut [u8]) {
     let mut i: u64 = 0;
-    while i < 480 {
+    while i < SCHEDULES {
         run(i, schedule, log);
         i += 1;
     }

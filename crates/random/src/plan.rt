@@ -1,5 +1,9 @@
 // What is drawn for a schedule before its first line.
 use crate::dice::Dice;
+use crate::state;
+
+// The schedules from this one on are of edition 3.
+const OLD_FROM: u64 = 480;
 
 pub struct Plan {
     pub edition: u64,
@@ -25,7 +29,7 @@ pub fn planned(i: u64) -> Plan {
     let damage = harm.got;
     let dice = harm.roll(count);
     Plan {
-        edition: i % 3,
+        edition: edition(i),
         n,
         count,
         raises,
@@ -34,6 +38,14 @@ pub fn planned(i: u64) -> Plan {
         victim: dice.got % 65536 + 1,
         dice,
     }
+}
+
+// the editions with a queue in turn, and after all of these edition 3
+fn edition(i: u64) -> u64 {
+    if i < OLD_FROM {
+        return i % state::OLD;
+    }
+    state::OLD
 }
 
 // N, in `got`

@@ -3,8 +3,8 @@ use crate::dice::Dice;
 use lock::LockState;
 use lock::Row;
 
-// The editions are the numbers below this one.
-pub const EDITIONS: u64 = 3;
+// Edition 3. Those below it are the ones with a queue.
+pub const OLD: u64 = LockState::OLD as u64;
 
 // A state with the dice after it.
 pub struct Made {
@@ -18,12 +18,17 @@ struct Drawn {
     dice: Dice,
 }
 
-// Place k is one that the edition has, by document 01's three lists.
+// Place k is one that the edition has, by document 01's three lists and request [1].
 pub fn has(edition: u8, k: u8) -> bool {
+    let drawn = edition == LockState::DRAWN;
+    let guarded = edition == LockState::GUARDED;
+    let old = edition == LockState::OLD;
     match k {
-        0 | 2..=5 | 7 | 9 | 14..=17 => true,
-        6 | 8 | 10..=13 | 19..=21 => edition != LockState::PLAIN,
-        1 | 18 | 22 => edition == LockState::GUARDED,
+        0 | 9 => true,
+        2..=5 | 7 | 14..=17 => !old,
+        6 | 8 | 10..=13 | 19..=21 => drawn | guarded,
+        1 | 18 | 22 => guarded,
+        23..=26 => old,
         _ => false,
     }
 }

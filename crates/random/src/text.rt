@@ -31,8 +31,8 @@ fn line(text: &mut [u8], at: usize, first: u64, second: u64, third: u64) -> usiz
 fn header(plan: Plan, text: &mut [u8]) -> Dice {
     let d = plan.dice;
     if plan.damage == 1 {
-        let other = d.roll(253);
-        line(text, 0, 1, other.got % 256 + 3, plan.n);
+        let other = d.roll(252);
+        line(text, 0, 1, other.got % 256 + 4, plan.n);
         return other;
     }
     if plan.damage == 2 {

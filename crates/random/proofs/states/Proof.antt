@@ -1,14 +1,14 @@
--- `random::states` is safe and ends. The loop's invariant: `block` is at most 100.
+-- `random::states` is safe and ends. The loop's invariant: `block` is at most 130.
 use borrow.Author.Needs.{needs}
 use Prim.Native.Nat.{_≤_, _-_}
 use Rattle.random.proofs.states.Statement.{statement}
 use Rattle.random.proofs.states.Tie as tie
 
 abbrev Inv-loop : tie.InvT-loop
-Inv-loop block₀ block = block ≤ 100
+Inv-loop block₀ block = block ≤ 130
 
 abbrev μ-loop : tie.MeasureT-loop
-μ-loop block₀ block = 100 - block
+μ-loop block₀ block = 130 - block
 
 loop-holds : tie.Need-loop-holds Inv-loop μ-loop
 loop-holds c = search needs
