@@ -1,17 +1,18 @@
-/* peer.c: lockbench once more, in C, written from document 01 alone: a schedule on standard input, its log on standard
- * output. It is a yardstick for speed and no test, and nothing is proved of it: the state stands in one static struct,
- * each act writes the cells that it names in place, and nothing is copied. `benchmark/run` compiles it, compares its logs
- * and sets its time beside lockbench's. */
+/* peer.c: lockbench once more, in C, written from document 01 and request [1] alone: a schedule on standard input, its
+ * log on standard output. It is a yardstick for speed and no test, and nothing is proved of it: the state stands in one
+ * static struct, each act writes the cells that it names in place, and nothing is copied. `benchmark/run` compiles it,
+ * compares its logs and sets its time beside lockbench's. */
 #include <stddef.h>
 #include <stdint.h>
 #include <unistd.h>
 
 enum { NONE = 255, PROCESSORS = 16, LINE = 9, ROW_LINE = 17, REFUSAL_LINE = 11, LONGEST = 54009 };
-enum { PLAIN, DRAWN, GUARDED };
+enum { PLAIN, DRAWN, GUARDED, OLD };
 enum { RELEASED, LOCKED, PREEMPTED, RP };
 enum {
     REST, GATE, CLEAR, SWAP, ARM, LINK, CLAIM, SPIN, SETTLE, INSIDE, POLL, SERVICE,
-    BACK, REGAIN, LOOK, CLOSE, AWAIT, HAND, FENCE, PARK, PEEK, TAKE, LIFT
+    BACK, REGAIN, LOOK, CLOSE, AWAIT, HAND, FENCE, PARK, PEEK, TAKE, LIFT,
+    OLD_TRY, OLD_POLL, OLD_SERVICE, OLD_FREE
 };
 
 struct row { uint8_t next, locked, guard, flag, place, pred, succ, nx; };
@@ -83,7 +84,7 @@ static inline void write_row(uint8_t p, int entry) {
 
 /* The lock. */
 static int fresh(uint8_t edition, uint8_t n) {
-    if (edition > GUARDED)
+    if (edition > OLD)
         return 6;
     if (n == 0 || n > PROCESSORS)
         return 7;
@@ -128,9 +129,9 @@ static int exchange(struct row *r, uint8_t was, uint8_t becomes, struct row *own
 /* places 4 to 6 have a pred, 17 to 22 a succ */
 static void step(uint8_t p) {
     struct row *rows = lock.rows, *own = &rows[p];
-    int plain = lock.edition == PLAIN;
+    int plain = lock.edition == PLAIN, old = lock.edition == OLD;
     switch (own->place) {
-    case REST: if (own->flag) own->flag = 0; else to_queue(own); break;
+    case REST: if (own->flag) own->flag = 0; else if (old) own->place = OLD_TRY; else to_queue(own); break;
     case GATE: if (!own->guard) own->place = CLEAR; break;
     case CLEAR: own->next = NONE; own->place = SWAP; break;
     case SWAP: own->pred = lock.tail; lock.tail = p; own->place = own->pred == NONE ? INSIDE : ARM; break;
@@ -139,7 +140,7 @@ static void step(uint8_t p) {
     case CLAIM: if (!exchange(&rows[own->pred], RP, RELEASED, own, SETTLE)) own->place = SPIN; break;
     case SPIN: if (own->locked == RELEASED) own->place = INSIDE; else if (!plain) own->place = POLL; break;
     case SETTLE: own->locked = RELEASED; own->place = INSIDE; break;
-    case INSIDE: own->place = LOOK; break;
+    case INSIDE: own->place = old ? OLD_FREE : LOOK; break;
     case POLL:
         if (own->flag && exchange(own, LOCKED, PREEMPTED, own, SERVICE)) own->flag = 0;
         else own->place = SPIN;
@@ -160,6 +161,10 @@ static void step(uint8_t p) {
     case PEEK: own->nx = rows[own->succ].next; if (own->nx == NONE) to_lift(own); else own->place = TAKE; break;
     case TAKE: if (!exchange(&rows[own->succ], RP, RELEASED, own, TAKE)) own->nx = NONE; to_lift(own); break;
     case LIFT: rows[own->succ].guard = 0; onward(own); break;
+    case OLD_TRY: if (lock.tail == NONE) { lock.tail = p; own->place = INSIDE; } else own->place = OLD_POLL; break;
+    case OLD_POLL: if (own->flag) { own->flag = 0; own->place = OLD_SERVICE; } else own->place = OLD_TRY; break;
+    case OLD_SERVICE: own->place = OLD_TRY; break;
+    case OLD_FREE: lock.tail = NONE; own->place = REST; break;
     }
 }
 
