@@ -1,5 +1,5 @@
-// The 27 acts of the step table of document 01 and request [1], each under its name. What an act does is said by the definition of the same name in
-// specs/Acts; the comments here say why the step is there.
+// The 27 acts of the step table of document 01 and request [1], each under its name. What an act does is said by the definition of
+// the same name in specs/Acts; the comments here say why the step is there.
 use crate::LockState;
 ghost use mathlib.Core.Path.{_≡_};
 ghost use Rattle.lock.specs.Acts as Acts;
