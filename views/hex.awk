@@ -1,7 +1,7 @@
 # hex.awk: a schedule in words, such as schedules/back_in_time.steps, to the schedule in hexadecimal. The words, line by
 # line:
 #
-#     guarded 3        first the edition (plain, drawn or guarded) and N
+#     guarded 3        first the edition (plain, drawn, guarded or old) and N
 #     step 0 x4        four steps of processor 0
 #     raise 1          one raise of processor 1
 #
@@ -13,7 +13,7 @@ BEGIN {
     rest = read_lines()
     # a text written by hand may end without its line feed
     if (rest != "") take(rest)
-    if (N == 0) fail("there is no edition; the first line is plain, drawn or guarded, and N")
+    if (N == 0) fail("there is no edition; " first_line())
     for (k = 1; k <= lines; k++) print line_of[k]
 }
 
@@ -28,10 +28,15 @@ function take(text,    words) {
     else act(words)
 }
 
+function first_line(    e, list) {
+    for (e = 0; e < EDITIONS; e++) list = list (e == 0 ? "" : e < EDITIONS - 1 ? ", " : " or ") edition_name[e]
+    return "the first line is " list ", and N"
+}
+
 function header(words,    e) {
     for (e = EDITIONS - 1; e >= 0; e--)
         if (word[1] == edition_name[e]) break
-    if (e < 0) fail("'" word[1] "' is no edition; the first line is plain, drawn or guarded, and N")
+    if (e < 0) fail("'" word[1] "' is no edition; " first_line())
     if (words < 2) fail("N is missing after '" word[1] "'")
     if (words > 2) fail("'" word[3] "' is too much; the first line is an edition and N")
     N = whole(word[2])

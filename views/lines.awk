@@ -7,7 +7,8 @@ BEGIN {
     NONE = 255
     MOST = 6000
     edition_name[0] = "plain"; edition_name[1] = "drawn"; edition_name[2] = "guarded"
-    EDITIONS = 3
+    edition_name[3] = "old"
+    EDITIONS = 4
     PROCESSORS = 16
     # 10 and 11 are answers of the library, and end no log
     refusal[1] = "the schedule has over 54,009 bytes"
@@ -15,7 +16,7 @@ BEGIN {
     refusal[3] = "one of the eight is not 0-9 or A-F"
     refusal[4] = "the check doesn't come to 0"
     refusal[5] = "line 1 doesn't begin 01, or a later one 02"
-    refusal[6] = "edition over 2"
+    refusal[6] = "edition over 3"
     refusal[7] = "N is 0 or over 16"
     refusal[8] = "event neither 1 nor 2"
     refusal[9] = "processor not below N"

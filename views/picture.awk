@@ -63,7 +63,7 @@ function many_of(n, one, several) {
 function picture_name(    s) {
     s = summary()
     # one waiter may be passed over hundreds of times
-    if (length(s) > 300) s = "one join was passed over, by " overtakings " entries"
+    if (length(s) > 300) s = "one " start_noun[edition] " was passed over, by " overtakings " entries"
     return edition_name[edition] ", N " N ": " s
 }
 
@@ -75,7 +75,7 @@ function shown_words(    s) {
 
 function about() {
     return "A lane for each of " many_of(N, "processor", "processors") ", " shown_words() ". In the whole log: " \
-        many_of(joins, "join", "joins") ", " many_of(entries, "entry", "entries") ", " \
+        many_of(joins, start_noun[edition], start_nouns[edition]) ", " many_of(entries, "entry", "entries") ", " \
         many_of(interrupts, "interrupt", "interrupts") " taken, " many_of(overtakings, "overtaking", "overtakings") \
         ". Told from the log by replaying it, not proved."
 }
@@ -87,7 +87,8 @@ function interrupt_words(    j, passed, free, s) {
         passed++
         if (interrupted(j, passer_entered[j, 1])) continue
         if (++free > 3) continue
-        s = s (free == 1 ? "" : "; ") "processor " join_who[j] " (joined " join_line[j] "), " at_most_passers(j)
+        s = s (free == 1 ? "" : "; ") "processor " join_who[j] " (" start_past[edition] " " join_line[j] "), " \
+            at_most_passers(j)
     }
     if (passed == 0) return ""
     if (passed == 1) return "It had taken " (free ? "no" : "an") " interrupt before."

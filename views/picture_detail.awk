@@ -86,7 +86,7 @@ function lane(p,    i, y, x1, x2) {
 function line_words(k,    s) {
     s = "line " k ": processor " at_who[k] ", " at_act[k] ", " (at_from[k] == at_to[k] ? "at " : "to ") at_to[k] " " \
         place_name[at_to[k]]
-    return s (at_note[k] == "" ? "" : ", " at_note[k]) "; queue: " at_queue[k]
+    return s (at_note[k] == "" ? "" : ", " at_note[k]) (queued[edition] ? "; queue: " at_queue[k] : "")
 }
 
 # The whole place of the event answers a hover, as a tick is too thin for it.

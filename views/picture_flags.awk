@@ -21,7 +21,7 @@ function gather_overtakings(    j, i, k) {
 
 # Names at most so many of those passed over; where `short`, without their joins.
 function overtaking_words(k, named_most, short,    n, s) {
-    s = "line " k ": " at_who[k] (short ? "" : " (joined " over_joined[k] ")") " passes "
+    s = "line " k ": " at_who[k] (short ? "" : " (" start_past[edition] " " over_joined[k] ")") " passes "
     for (n = 1; n <= over_many[k] && n <= named_most; n++)
         s = s (n == 1 ? "" : n < over_many[k] ? ", " : " and ") passed_words(k, over_join[k, n], short)
     return s (over_many[k] > named_most ? " and " over_many[k] - named_most " more" : "")
@@ -30,7 +30,8 @@ function overtaking_words(k, named_most, short,    n, s) {
 # An interrupt taken by then is named: the claim of order speaks only of those who have taken none.
 function passed_words(k, j, short) {
     if (short) return join_who[j]
-    return join_who[j] " (joined " join_line[j] (interrupted(j, k) ? ", interrupt " join_interrupt[j] : "") ")"
+    return join_who[j] " (" start_past[edition] " " join_line[j] \
+        (interrupted(j, k) ? ", interrupt " join_interrupt[j] : "") ")"
 }
 
 function interrupted(j, k) {
@@ -55,8 +56,8 @@ function frames(paint, half,    j, x1, x2, y) {
 # One waiter may be passed over hundreds of times.
 function frame_words(j) {
     if (join_passed[j] <= 8) return sentence(j)
-    return "processor " join_who[j] ", joined at line " join_line[j] ", was passed over by " join_passed[j] \
-        " entries, the first at line " passer_entered[j, 1] " and the last at line " join_last_passed[j]
+    return "processor " join_who[j] ", " start_past[edition] " at line " join_line[j] ", was passed over by " \
+        join_passed[j] " entries, the first at line " passer_entered[j, 1] " and the last at line " join_last_passed[j]
 }
 
 # ---- flags

@@ -4,8 +4,9 @@
 # Everything differs by shape or pattern, so that a print in black and white says the same; colour only helps.
 
 BEGIN {
-    PHASES = split("inside,handing on,waiting,in service,on the way,at rest", phase_named, ",")
-    split("inside handing waiting service way rest", phase_class, " ")
+    # the old edition tries where the others wait, and frees the lock where they hand it on
+    PHASES = split("inside,handing on,freeing,waiting,trying,in service,on the way,at rest", phase_named, ",")
+    split("inside handing handing waiting waiting service way rest", phase_class, " ")
     for (k = 1; k <= PHASES; k++) class_of[phase_named[k]] = phase_class[k]
     PASSES = split("handed,parked,claimed,taken back", pass_named, ",")
     pass_class["handed"] = "handed"; pass_class["parked"] = "parked"
@@ -125,27 +126,36 @@ function band(x1, x2, y, half, starts, ends, broken, said,    up, foot, data) {
 # ---- the legend
 
 # Lays out samples with their words from left to right; answers the y below them.
-function legend(left, right, y, cells,    k, order) {
+function legend(left, right, y, cells) {
     legend_left = legend_x = left
     legend_right = right
     legend_y = y
-    split("at rest,on the way,waiting,inside,in service,handing on", order, ",")
-    for (k = 1; k <= PHASES; k++) sample(cells ? "area" : "bar", order[k], order[k], 34)
-    legend_break()
-    if (!cells) {
-        sample("join", "", "joins", 16)
-        sample("entry", "", "enters", 16)
-        sample("both", "", "joins and enters in one step", 16)
-        sample("request", "", "interrupt request", 14)
-        sample("tick", "", "an event of this processor", 10)
-        legend_break()
-        for (k = 1; k <= PASSES; k++) sample("arrow", pass_named[k], "the lock is " pass_named[k], 14)
-        legend_break()
-    }
+    legend_phases(cells ? "area" : "bar")
+    if (!cells) legend_marks()
     sample("overentry", "", "enters and overtakes" (cells ? " (a number: so many times in the cell)" : ""), 18)
-    sample("frame", "", "is passed over, from its join on", 32)
+    sample("frame", "", "is passed over, from its " start_noun[edition] " on", 32)
     sample("broken", "", "the same, but it had taken an interrupt", 32)
     return legend_y + 18
+}
+
+function legend_phases(kind,    k, many, order) {
+    many = split(queued[edition] ? "at rest,on the way,waiting,inside,in service,handing on" : \
+        "at rest,trying,inside,in service,freeing", order, ",")
+    for (k = 1; k <= many; k++) sample(kind, order[k], order[k], 34)
+    legend_break()
+}
+
+# Without a queue the lock goes from nobody to somebody: whoever frees it gives it to no one.
+function legend_marks(    k) {
+    sample("join", "", start_verb[edition], 16)
+    sample("entry", "", "enters", 16)
+    sample("both", "", start_verb[edition] " and enters in one step", 16)
+    sample("request", "", "interrupt request", 14)
+    sample("tick", "", "an event of this processor", 10)
+    legend_break()
+    if (!queued[edition]) return
+    for (k = 1; k <= PASSES; k++) sample("arrow", pass_named[k], "the lock is " pass_named[k], 14)
+    legend_break()
 }
 
 function legend_break() {

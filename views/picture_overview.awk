@@ -125,7 +125,7 @@ function share_words(p, c,    i, s, n) {
         if (n > 0) s = s (s == "" ? "" : ", ") phase_named[i] " " n
     }
     return "processor " p ", " line_or_lines(cell_from(c), cell_to(c)) ": " s "; " \
-        many_of(tallied["joins", p, c] + 0, "join", "joins") ", " \
+        many_of(tallied["joins", p, c] + 0, start_noun[edition], start_nouns[edition]) ", " \
         many_of(tallied["entries", p, c] + 0, "entry", "entries") ", " \
         many_of(tallied["interrupts", p, c] + 0, "interrupt", "interrupts")
 }
@@ -153,20 +153,21 @@ function passing_mark(p, c,    k, n, i, x, first, lanes) {
 
 # ---- numbers
 
-function number_rows(    i, c, rows_named) {
-    split("joins entries interrupts", rows_named, " ")
-    for (i = 1; i <= 3; i++) {
-        write_text("", 12, down, "start", rows_named[i])
-        for (c = 1; c <= cells_shown; c++) number_of(rows_named[i], c)
-        down += 14
-    }
+function number_rows() {
+    number_row("joins", start_nouns[edition])
+    number_row("entries", "entries")
+    number_row("interrupts", "interrupts")
     down -= 8
 }
 
-function number_of(kind, c,    n) {
-    n = tallied[kind, "all", c] + 0
-    write_text(n > 0 ? "small" : "small pale", cell_middle(c), down, "middle", n,
-        line_or_lines(cell_from(c), cell_to(c)) ": " kind " " n)
+function number_row(kind, label,    c, n) {
+    write_text("", 12, down, "start", label)
+    for (c = 1; c <= cells_shown; c++) {
+        n = tallied[kind, "all", c] + 0
+        write_text(n > 0 ? "small" : "small pale", cell_middle(c), down, "middle", n,
+            line_or_lines(cell_from(c), cell_to(c)) ": " label " " n)
+    }
+    down += 14
 }
 
 # ---- the list

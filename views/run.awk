@@ -1,5 +1,6 @@
 # run.awk: what a replayed log shows of the queue: joins, entries, interrupts taken, who waits, and who was passed over.
 # The words are those of docs/RANDOM.md, 'The verdict in numbers'. In order: joins and entries, the queue, the order.
+# The old edition has no joins: there the first try takes the place of the join, here and in every view.
 #
 # What is left of line k: at_queue, and whether k is in at_join, at_entry, at_interrupt. Of join j, from 1 to joins:
 # join_who and join_line; join_end (entered, again or open) and join_end_line; join_waited, the entries of others in its
@@ -12,10 +13,16 @@ BEGIN {
 
 # An event of processor p that stood at `from` has been carried out.
 function follow(p, from, stepped) {
-    if (stepped && from == SWAP) join(p)
-    if (stepped && from == POLL && now["place", p] == SERVICE) interrupt(p)
+    if (stepped && (from == SWAP || from == TRY && first_try(p))) join(p)
+    if (stepped && (from in service_of) && now["place", p] == service_of[from]) interrupt(p)
     if (stepped && from != INSIDE && now["place", p] == INSIDE) enter(p)
-    at_queue[number] = queue()
+    if (stepped) came_from[p] = from
+    if (queued[edition]) at_queue[number] = queue()
+}
+
+# Whether a step of processor p at 23 is the first since it left rest, and not one after a poll or a service.
+function first_try(p) {
+    return came_from[p] == REST
 }
 
 function join(p) {
@@ -115,6 +122,6 @@ function judge_order(    j, i) {
 function would_pass(p,    q, list) {
     for (q = 0; q < N; q++)
         if (q != p && (q in open) && (p in latest) && latest[p] > join_line[open[q]])
-            list = list (list == "" ? "" : ", ") q " (joined at line " join_line[open[q]] ")"
+            list = list (list == "" ? "" : ", ") q " (" start_past[edition] " at line " join_line[open[q]] ")"
     return list == "" ? "" : "; the entry that it shows would pass over " list
 }

@@ -1,5 +1,5 @@
-# table.awk: document 01's places and its step table, as the views know them. In order: names and phases, a step as a
-# list of writes, the acts of each phase.
+# table.awk: document 01's places and its step table, with the old edition of document 02, as the views know them. In
+# order: names and phases, a step as a list of writes, the acts of the queue lock, those of the old edition.
 #
 # now[NAME, p] is a cell of processor p's row as the run has it; now["L", LOCK] is L. A step writes nothing at once:
 # put() notes what it would write, so that a line of the log can first be held against it. `did` says what it does.
@@ -9,15 +9,18 @@ BEGIN {
     RELEASED = 0; LOCKED = 1; PREEMPTED = 2; R_P = 3
     locked_name[RELEASED] = "Released"; locked_name[LOCKED] = "Locked"
     locked_name[PREEMPTED] = "Preempted"; locked_name[R_P] = "R_P"
-    PLAIN = 0; DRAWN = 1; GUARDED = 2
-    # the drawn edition carries no claim of order
-    ordered[PLAIN] = 1; ordered[DRAWN] = 0; ordered[GUARDED] = 1
+    PLAIN = 0; DRAWN = 1; GUARDED = 2; OLD = 3
+    # the drawn edition carries no claim of order, and the old one has no queue whose order it could keep
+    ordered[PLAIN] = 1; ordered[DRAWN] = 0; ordered[GUARDED] = 1; ordered[OLD] = 0
+    queued[PLAIN] = queued[DRAWN] = queued[GUARDED] = 1; queued[OLD] = 0
+    for (k = PLAIN; k <= GUARDED; k++) wait_begins(k, "join", "joins", "joined", "joins")
+    wait_begins(OLD, "first try", "first tries", "first tried", "makes its first try")
 
     REST = 0; GATE = 1; CLEAR = 2; SWAP = 3; ARM = 4; LINK = 5; CLAIM = 6; SPIN = 7; SETTLE = 8; INSIDE = 9; POLL = 10
     SERVICE = 11; BACK = 12; REGAIN = 13; LOOK = 14; CLOSE = 15; AWAIT = 16; HAND = 17; FENCE = 18; PARK = 19; PEEK = 20
-    TAKE = 21; LIFT = 22
+    TAKE = 21; LIFT = 22; TRY = 23; OLD_POLL = 24; OLD_SERVICE = 25; FREE = 26
     PLACES = split("rest gate clear swap arm link claim spin settle inside poll service back regain look close await " \
-        "hand fence park peek take lift", named, " ")
+        "hand fence park peek take lift try poll service free", named, " ")
     for (k = 0; k < PLACES; k++) {
         place_name[k] = named[k + 1]
         phase[k] = phase_of(k)
@@ -27,13 +30,27 @@ BEGIN {
     split("6 8 10 11 12 13 19 20 21", list, " ")
     for (k in list) has[DRAWN, list[k]] = 1
     for (k = REST; k <= LIFT; k++) has[GUARDED, k] = 1
+    split("0 9 23 24 25 26", list, " ")
+    for (k in list) has[OLD, list[k]] = 1
+    # a step from the one to the other takes an interrupt
+    service_of[POLL] = SERVICE; service_of[OLD_POLL] = OLD_SERVICE
+}
+
+# What a wait begins with in edition e, in words.
+function wait_begins(e, noun, nouns, past, verb) {
+    start_noun[e] = noun
+    start_nouns[e] = nouns
+    start_past[e] = past
+    start_verb[e] = verb
 }
 
 function phase_of(k) {
     if (k == REST) return "at rest"
     if (k <= SWAP) return "on the way"
     if (k == INSIDE) return "inside"
-    if (k >= SERVICE && k <= REGAIN) return "in service"
+    if (k >= SERVICE && k <= REGAIN || k == OLD_SERVICE) return "in service"
+    if (k == TRY || k == OLD_POLL) return "trying"
+    if (k == FREE) return "freeing"
     return k <= POLL ? "waiting" : "handing on"
 }
 
@@ -62,7 +79,8 @@ function step(p,    k) {
     writes = 0
     did = pass = ""
     k = now["place", p]
-    if (phase[k] == "at rest" || phase[k] == "on the way") way_in(p, k)
+    if (k >= TRY) try_for(p, k, now["L", LOCK])
+    else if (phase[k] == "at rest" || phase[k] == "on the way") way_in(p, k)
     else if (phase[k] == "waiting") wait(p, k, now["pred", p])
     else if (phase[k] == "in service") serve(p, k)
     else hand_on(p, k, now["succ", p])
@@ -87,11 +105,11 @@ function passes(how, from, to) {
     taker = to
 }
 
-# ---- the acts
+# ---- the acts of the queue lock; rest and inside are in every edition
 
-# Where a processor goes that wants to join.
+# Where a processor goes that wants the lock.
 function door() {
-    return edition == GUARDED ? GATE : CLEAR
+    return edition == GUARDED ? GATE : edition == OLD ? TRY : CLEAR
 }
 
 function way_in(p, k,    last) {
@@ -145,7 +163,7 @@ function serve(p, k) {
 
 function hand_on(p, k, behind,    found) {
     found = now["locked", behind]
-    if (k == INSIDE) go(p, LOOK, "leaves")
+    if (k == INSIDE) go(p, edition == OLD ? FREE : LOOK, "leaves")
     else if (k == LOOK || k == AWAIT) look(p, k, now["next", p])
     else if (k == CLOSE && now["L", LOCK] == p) { put("L", LOCK, NONE); go(p, REST, "closes the queue") }
     else if (k == CLOSE) go(p, AWAIT)
@@ -196,4 +214,17 @@ function lift_next(p, second, words) {
 function on_or_out(p, second, words) {
     if (second == NONE) go(p, REST, words)
     else { put("succ", p, second); go(p, HAND, words) }
+}
+
+# ---- the acts of the old edition
+
+# L has who holds the lock.
+function try_for(p, k, holder,    tries) {
+    tries = first_try(p) ? start_verb[edition] : "tries again"
+    if (k == TRY && holder == NONE) { put("L", LOCK, p); go(p, INSIDE, tries " and enters") }
+    else if (k == TRY) go(p, OLD_POLL, tries "; " holder " has the lock")
+    else if (k == OLD_POLL && now["flag", p]) { put("flag", p, 0); go(p, OLD_SERVICE, "takes an interrupt") }
+    else if (k == OLD_POLL) go(p, TRY)
+    else if (k == OLD_SERVICE) go(p, TRY, "comes back")
+    else { put("L", LOCK, NONE); go(p, REST, "frees the lock") }
 }

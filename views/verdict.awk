@@ -25,7 +25,8 @@ function closing() {
 
 function join_table(    j) {
     next_row()
-    cell("joined"); cell("processor"); cell("led to"); cell("waited through"); cell("interrupt"); cell("passed over by")
+    cell(start_past[edition]); cell("processor"); cell("led to"); cell("waited through"); cell("interrupt")
+    cell("passed over by")
     for (j = 1; j <= joins; j++) {
         next_row()
         cell(join_line[j])
@@ -40,7 +41,7 @@ function join_table(    j) {
 
 function led_to(j) {
     if (join_end[j] == "entered") return "entry at line " join_end_line[j]
-    if (join_end[j] == "again") return "a new join at line " join_end_line[j]
+    if (join_end[j] == "again") return "a new " start_noun[edition] " at line " join_end_line[j]
     return "no entry in this log"
 }
 
@@ -52,14 +53,14 @@ function passers(j, between, by,    i, list) {
 }
 
 function passer(q, joined, entered) {
-    return q (joined == entered ? " (joined and entered " joined ")" : " (joined " joined ", entered " entered ")")
+    return q " (" start_past[edition] (joined == entered ? " and" : " " joined ",") " entered " entered ")"
 }
 
 function sentence(j,    how) {
     if (join_end[j] == "entered") how = " and entered at line " join_end_line[j]
     else if (join_end[j] == "again") how = " and, without an entry, again at line " join_end_line[j]
     else how = " and not entered by the end of the log"
-    return "processor " join_who[j] ", joined at line " join_line[j] how ", was passed over " \
+    return "processor " join_who[j] ", " start_past[edition] " at line " join_line[j] how ", was passed over " \
         passers(j, " and ", "by ") "; it had taken " interrupt_taken(j)
 }
 
@@ -70,9 +71,10 @@ function interrupt_taken(j) {
     return "no interrupt before line " join_interrupt[j]
 }
 
-# What plain and guarded claim, where somebody was passed over all the same.
+# What the edition claims, where somebody was passed over all the same.
 function claim() {
-    if (!ordered[edition]) return "The drawn edition carries no claim of order."
+    if (!queued[edition]) return "The " edition_name[edition] " edition keeps no order, and none is claimed."
+    if (!ordered[edition]) return "The " edition_name[edition] " edition carries no claim of order."
     return "Demand 3 claims nothing of a waiter that has taken an interrupt. NobodyOvertakes covers the last join\n" \
         "before an entry, with any interrupts; these joins led to no entry."
 }
@@ -85,5 +87,5 @@ function summary(    j, many, who) {
             many++
             who = "processor " join_who[j] " was passed over " passers(j, " and ", "by ")
         }
-    return many == 1 ? who : many " joins were passed over, in " overtakings " overtakings"
+    return many == 1 ? who : many " " start_nouns[edition] " were passed over, in " overtakings " overtakings"
 }

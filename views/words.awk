@@ -20,7 +20,9 @@ function all_processors() {
 function event_table(    k) {
     next_row()
     cell("line"); cell("processor"); cell("act"); cell("place"); cell("L"); cell("locked"); cell("next"); cell("flag")
-    cell("guard"); cell("queue"); cell("what happens")
+    cell("guard")
+    if (queued[edition]) cell("queue")
+    cell("what happens")
     for (k = first_shown; k <= last_shown; k++) {
         next_row()
         cell(sprintf("%4d", k))
@@ -32,10 +34,10 @@ function event_table(    k) {
         cell(none_or(at_next[k]))
         cell(at_flag[k] ? "set" : "-")
         cell(at_guard[k] ? "set" : "-")
-        cell(at_queue[k])
+        if (queued[edition]) cell(at_queue[k])
         cell(at_note[k])
     }
-    print_table("rrlllllllll")
+    print_table("rrllllllll" (queued[edition] ? "l" : ""))
 }
 
 function place_words(k,    how) {
@@ -48,7 +50,9 @@ function none_or(x) {
 }
 
 function notes(    k, alike) {
-    if (events > 0) print "\nqueue: *inside or handing on | who waits, in the order of the latest joins; [in service]"
+    if (events > 0 && queued[edition])
+        print "\nqueue: *inside or handing on | who waits, in the order of the latest joins; [in service]"
+    if (events > 0 && !queued[edition]) print "\nL: who has the lock; this edition has no queue"
     for (k = first_shown; k <= last_shown; k++)
         if (at_act[k] ~ / or raise$/) alike = 1
     if (alike) print "\"or raise\": a step that stays and a raise of a raised processor give the same line."
