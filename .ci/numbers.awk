@@ -6,7 +6,7 @@
 /^$/ { act = table = 0 }
 act && /^ *[0-9]+ / && $2 != "REFUSED," { event(substr($0, act, place - act), substr($0, place)) }
 table { joins = joins "\n" join($1, $2, $0) }
-/^joined / { table = 1 }
+/^(joined|first tried) / { table = 1 }
 END {
     if (N == 0) exit
     print "run " edition " " N " " events + 0
@@ -24,16 +24,16 @@ function event(name, to) {
 
 function join(joined, p, line,    out) {
     rest = line
-    out = "join " p " " joined
+    out = (edition == 3 ? "try " : "join ") p " " joined
     if (cut("entry at line [0-9]+")) out = out " entered " found
-    else if (cut("a new join at line [0-9]+")) out = out " again " found
+    else if (cut("a new (join|first try) at line [0-9]+")) out = out " again " found
     else if (cut("no entry in this log")) out = out " open 0"
     cut("[0-9]+ entr(y|ies)")
     out = out " " number
     out = out " " (cut("at line [0-9]+") ? found : 0)
-    while (cut("[0-9]+ [(]joined (and|[0-9]+,) entered [0-9]+[)]")) {
+    while (cut("[0-9]+ [(](joined|first tried) (and|[0-9]+,) entered [0-9]+[)]")) {
         out = out " " number " "
-        out = out (text ~ /joined and/ ? found : substr(text, index(text, "joined ") + 7) + 0) " " found
+        out = out (text ~ / and entered/ ? found : substr(text, index(text, "ed ") + 3) + 0) " " found
     }
     return out
 }
