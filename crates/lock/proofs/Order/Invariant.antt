@@ -6,7 +6,7 @@
 --     inv-guard        a set guard has its releaser
 use Prim.Native.Nat.{ℕ, zero, suc, _<_, _≤_}
 use mathlib.Core.Path.{_≡_, refl, sym, ap, subst, _∙_}
-use mathlib.Core.Bool.{Bool, true, false, cond}
+use mathlib.Core.Bool.{Bool, true, false, cond, _||_, or-true}
 use mathlib.Core.Logic.{_≢_}
 use native.Mathlib.Omega.{arith}
 use lib.Dec.{eqb, lit<}
@@ -14,17 +14,17 @@ use lib.ListN.{length}
 use borrow.Author.Tests.{eqb-true}
 use Rattle.lock.specs.declared.LockState.{LockState}
 use Rattle.choice.proofs.Tests.{clash, and-right}
-use Rattle.lock.specs.State.{processors, none, isNone, freshState, row}
-use Rattle.lock.specs.Sound.{places, sound}
+use Rattle.lock.specs.State.{processors, none, isNone, plain, guarded, isPlain, isGuarded, freshState, row}
+use Rattle.lock.specs.Sound.{places, hasPlace, sound}
 use Rattle.lock.specs.Table.{Place, placeAt, act, stepped, swap, inside}
 use Rattle.lock.specs.Event.{raised}
 use Rattle.lock.specs.Run.{Call, after, enters, stepsOf}
-use Rattle.lock.proofs.Order.Tickets.{Tickets, noTickets, ticketed, joined, stepTickets, by-call, isMember, isOrdered, ordered-queue}
+use Rattle.lock.proofs.Order.Tickets.{Tickets, noTickets, ticketed, joined, stepTickets, by-call, isMember, isOrdered}
 use Rattle.lock.proofs.Ground.Writes.{own-start, fresh-row, own-flag}
 use Rattle.lock.proofs.Ground.Places.{Each, begin, _▹_, at-number}
 use Rattle.lock.proofs.Ground.Calls.{Accepted}
-use Rattle.lock.proofs.Ground.Facts.{Role, out, raw, wait, tok, rel, lag, isApart, entry, facts, factsAt, number-test}
-use Rattle.lock.proofs.Ground.Editions.{has-queue}
+use Rattle.lock.proofs.Ground.Facts.{Role, out, raw, wait, tok, rel, lag, number, normal, facts, factsAt, number-test}
+use Rattle.lock.proofs.Ground.Editions.{has-normal}
 use Rattle.lock.proofs.Keeping.Parts.{row-room, row-has}
 use Rattle.lock.proofs.Order.Roles.{role, isQueued, swap-place, member-queued}
 use Rattle.lock.proofs.Order.Statement.{Ghost, Queued, Tok, Duty, Fencing, Fit, Holds}
@@ -78,6 +78,18 @@ inv-fresh e n ordered some many =
           (λ x z. omega arith));
     }
 
+-- the ordered editions' places
+abbrev ordered-have : ℕ → Bool
+ordered-have k = hasPlace plain k || hasPlace guarded k
+
+ordered-has : (e k : ℕ) → isOrdered e ≡ true → hasPlace e k ≡ true → ordered-have k ≡ true
+ordered-has e k o h = by (isPlain e) (isGuarded e) refl refl o
+  where
+    by : (a b : Bool) → isPlain e ≡ a → isGuarded e ≡ b → a || b ≡ true → ordered-have k ≡ true
+    by true b f g o = rw (subst (λ (e : ℕ). hasPlace e k ≡ true) (eqb-true e plain f) h) refl
+    by false true f g o = rw (subst (λ (e : ℕ). hasPlace e k ≡ true) (eqb-true e guarded g) h) (or-true (hasPlace plain k))
+    by false false f g o = clash o refl
+
 -- the act of each place
 module _ (s : LockState) (g : Tickets) (p : ℕ) (v : Holds s g) (room : p < length (s .rows)) (fit : sound s ≡ true) where
   -- who stands at a place that is not the swap makes no join, so the tickets stay
@@ -94,14 +106,16 @@ module _ (s : LockState) (g : Tickets) (p : ℕ) (v : Holds s g) (room : p < len
       subst (λ b. Holds (Acts.swap s p) (cond b (joined g p) g)) (sym (swap-place ((row s p) .place) e))
       (swap-holds s g p v room e)
 
-  -- an ordered edition lacks the places of the old boards' lock
-  lacked : {k : Place} → isApart ((entry k) .phase) ≡ true → placeAt ((row s p) .place) ≡ k → Holds (act k s p) g
-  lacked far e =
+  -- nobody stands at a place that the ordered editions lack
+  lacked : {k : Place} → ordered-have (number k) ≡ false → placeAt ((row s p) .place) ≡ k → Holds (act k s p) g
+  lacked none e =
       let rooms = v .rooms in
-      clash (ap (λ j. isApart ((entry j) .phase)) e ∙ far)
-      (has-queue (s .edition) ((row s p) .place) (ordered-queue (s .edition) (v .ordered)) (row-has s fit p (omega arith)))
+      let m = (row s p) .place in
+      clash (ordered-has (s .edition) (normal m) (v .ordered) (has-normal (s .edition) m (row-has s fit p (omega arith))))
+      (ap (λ k. ordered-have (number k)) e ∙ none)
 
   acts : Each (λ m. placeAt ((row s p) .place) ≡ placeAt m → Holds (act (placeAt m) s p) (stepTickets s g p)) places
+  unfolding hasPlace
   acts =
       begin ▹ still refl (rest-holds s g p v room) ▹ still refl (gate-holds s g p v room)
       ▹ still refl (clear-holds s g p v room) ▹ joining ▹ still refl (arm-holds s g p v room)
