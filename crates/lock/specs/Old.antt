@@ -1,7 +1,7 @@
 -- Request [1], the old boards' lock: why "Demand 3's order and bound aren't claimed". It has no joins; one that has tried is
 -- overtaken, on the schedule that is kept as schedules/old_overtaken; and no number bounds the entries that one waits through.
 -- That two are never inside together stands in Claims, over every edition.
-use Prim.Native.Nat.{ℕ, zero, suc}
+use Prim.Native.Nat.{ℕ}
 use mathlib.Core.Path.{_≡_}
 use mathlib.Core.Bool.{Bool, true, _&&_}
 use mathlib.Core.Logic.{_≢_}
@@ -17,11 +17,11 @@ use Rattle.lock.specs.Claims.{reached}
 abbrev pub OldHasNoJoins : Type 0
 OldHasNoJoins = (n : ℕ) (calls : List Call) (p : ℕ) → joinsIn (freshState old n) calls p ≡ 0
 
--- processor p "has tried and failed": "23 try: ... otherwise to 24"
+-- processor p tries and fails: "23 try: ... otherwise to 24"
 abbrev pub fails : LockState → Call → ℕ → Bool
 fails s c p = stepsOf s c p && fromTo s c p 23 24
 
--- processor q "leaves": "26 free: ... to 0"
+-- processor q leaves: "26 free: ... to 0"
 abbrev pub leaves : LockState → Call → ℕ → Bool
 leaves s c q = stepsOf s c q && fromTo s c q 26 0
 
@@ -30,8 +30,8 @@ pub record KeptOut (s : LockState) (calls : List Call) (p : ℕ) : Type 0 where
   pub entries : entriesIn s calls p ≡ 0
   pub interrupts : interruptsIn s calls p ≡ 0
 
--- "1 has tried and failed, then 0 leaves, comes back and enters again before 1": p fails by the call `try`, then q leaves by `leave`
--- and enters by `entry`, and p is kept out all the while. The calls from the fresh state on are the schedule.
+-- An overtaking: p tries and fails by the call `try`, then q leaves by `leave`, comes back and enters by `entry`, and p is kept out
+-- all the while. All the calls, from the fresh state on, are the schedule.
 pub record Overtaken (n : ℕ) (schedule : List Call) (p q : ℕ) : Type 0 where
   pub before : List Call
   pub try : Call
@@ -46,7 +46,8 @@ pub record Overtaken (n : ℕ) (schedule : List Call) (p q : ℕ) : Type 0 where
   pub entered : enters (reached old n (before ++ try ∷ meanwhile ++ leave ∷ back)) entry q ≡ true
   pub waited : KeptOut (reached old n (before ++ try ∷ [])) (meanwhile ++ leave ∷ back ++ entry ∷ []) p
 
--- "a schedule showing an overtaking is kept as a test": schedules/old_overtaken, 8 events
+-- "a schedule showing an overtaking is kept as a test": the 8 events of schedules/old_overtaken, in which 1 has tried and failed,
+-- then 0 leaves, comes back and enters again before 1
 abbrev pub OldOvertakes : Type 0
 OldOvertakes = Overtaken 2 (steps 0 2 ++ steps 1 2 ++ steps 0 4) 1 0
 
