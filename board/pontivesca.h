@@ -22,8 +22,9 @@ size_t pontivesca_room(size_t bytes);
 size_t pontivesca_log(const uint8_t *schedule, size_t bytes, uint8_t *out, size_t room);
 
 /* Writes a line of a schedule, `kind first second check` and a line feed, into the first bytes of `out`. Answers 9.
- * Answers 0, and writes nothing, where `room` is below 9. Line 1 is kind 1, edition, N; a later line is kind 2,
- * event, processor. The values are not looked at: it is the run of the schedule that refuses them. */
+ * Answers 0, and writes nothing, where `room` is below 9. Line 1 is kind 1, edition (0 plain, 1 drawn, 2 guarded,
+ * 3 old), N; a later line is kind 2, event (1 step, 2 raise), processor. The values are not looked at: it is the run
+ * of the schedule that refuses them. */
 size_t pontivesca_line(uint8_t kind, uint8_t first, uint8_t second, uint8_t *out, size_t room);
 
 #ifdef __cplusplus
