@@ -1,7 +1,7 @@
 -- Document 01, "The step table", and request [1]: the act of each place, under its name and with its sentence. s is the state, p
 -- the processor that steps; "own" is p's row. Which act a step does is said in Table.
 use Prim.Native.Nat.{ℕ}
-use mathlib.Core.Bool.{true, false, _&&_, cond}
+use mathlib.Core.Bool.{Bool, true, false, _&&_, cond}
 use lib.Dec.{eqb}
 use Rattle.lock.specs.declared.LockState.{LockState}
 use Rattle.lock.specs.State.{none, isNone, isPlain, isDrawn, isGuarded, isOld, Released, Locked, Preempted, RP, row, putTail, putNext, putLocked, putGuard, putFlag, to, putPred, putSucc, putNx}
@@ -127,9 +127,13 @@ lift s p = onward (putGuard s ((row s p) .succ) false) p
 
 -- ---- the old boards' lock, edition 3
 
+-- "L none": nobody has the lock
+unfoldable pub unheld : LockState → Bool
+unheld s = isNone (s .tail)
+
 -- 23 try: "L none becomes self, to 9; otherwise to 24"
 unfoldable pub oldTry : LockState → ℕ → LockState
-oldTry s p = cond (isNone (s .tail)) (to (putTail s p) p 9) (to s p 24)
+oldTry s p = cond (unheld s) (to (putTail s p) p 9) (to s p 24)
 
 -- 24 poll: "flag set, clear it, to 25; otherwise to 23"
 unfoldable pub oldPoll : LockState → ℕ → LockState

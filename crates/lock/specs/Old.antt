@@ -25,10 +25,12 @@ fails s c p = stepsOf s c p && fromTo s c p 23 24
 abbrev pub leaves : LockState → Call → ℕ → Bool
 leaves s c q = stepsOf s c q && fromTo s c q 26 0
 
--- p is kept out by the calls: it neither enters nor takes an interrupt in the run from s
-pub record KeptOut (s : LockState) (calls : List Call) (p : ℕ) : Type 0 where
-  pub entries : entriesIn s calls p ≡ 0
-  pub interrupts : interruptsIn s calls p ≡ 0
+-- After the calls `before` p tries and fails by the call `try`, and the calls `later` keep it out: in them it neither enters nor takes
+-- an interrupt.
+pub record KeptOut (n : ℕ) (before : List Call) (try : Call) (later : List Call) (p : ℕ) : Type 0 where
+  pub failed : fails (reached old n before) try p ≡ true
+  pub entries : entriesIn (reached old n (before ++ try ∷ [])) later p ≡ 0
+  pub interrupts : interruptsIn (reached old n (before ++ try ∷ [])) later p ≡ 0
 
 -- An overtaking: p tries and fails by the call `try`, then q leaves by `leave`, comes back and enters by `entry`, and p is kept out
 -- all the while. All the calls, from the fresh state on, are the schedule.
@@ -41,10 +43,9 @@ pub record Overtaken (n : ℕ) (schedule : List Call) (p q : ℕ) : Type 0 where
   pub entry : Call
   pub all : before ++ try ∷ meanwhile ++ leave ∷ back ++ entry ∷ [] ≡ schedule
   pub other : q ≢ p
-  pub failed : fails (reached old n before) try p ≡ true
   pub left : leaves (reached old n (before ++ try ∷ meanwhile)) leave q ≡ true
   pub entered : enters (reached old n (before ++ try ∷ meanwhile ++ leave ∷ back)) entry q ≡ true
-  pub waited : KeptOut (reached old n (before ++ try ∷ [])) (meanwhile ++ leave ∷ back ++ entry ∷ []) p
+  pub waited : KeptOut n before try (meanwhile ++ leave ∷ back ++ entry ∷ []) p
 
 -- "a schedule showing an overtaking is kept as a test": the 8 events of schedules/old_overtaken, in which 1 has tried and failed,
 -- then 0 leaves, comes back and enters again before 1
@@ -59,8 +60,7 @@ pub record WaitsThrough (n entries : ℕ) : Type 0 where
   pub p : ℕ
   pub q : ℕ
   pub other : q ≢ p
-  pub failed : fails (reached old n before) try p ≡ true
-  pub waited : KeptOut (reached old n (before ++ try ∷ [])) later p
+  pub waited : KeptOut n before try later p
   pub entered : entriesIn (reached old n (before ++ try ∷ [])) later q ≡ entries
 
 abbrev pub OldHasNoBound : Type 0

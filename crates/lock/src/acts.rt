@@ -308,8 +308,8 @@ impl LockState {
     pub(crate) fn old_try(self, p: u8) -> LockState
         ensures { λ s. ⌜ s ≡ Acts.oldTry self p ⌝ }
     {
-        let free = self.tail == LockState::NONE;
-        if free {
+        let unheld = self.tail == LockState::NONE;
+        if unheld {
             self.put_tail(p).to(p, 9)
         } else {
             self.to(p, 24)

@@ -185,9 +185,9 @@ module _ (s : LockState) (p : ℕ) (x : Excl s) (room : p < length (s .rows)) wh
       (record { settled = settled e; one = λ u. clash u refl }) (λ q d. λ u. ((x .rows q) .one u .0, there)))
 
   pub old-try-excl : placeAt (R .place) ≡ oldTry → Excl (Acts.oldTry s p)
-  unfolding Acts.oldTry
+  unfolding Acts.oldTry Acts.unheld
   old-try-excl e =
-      by-test Excl (isNone (s .tail))
+      by-test Excl (Acts.unheld s)
       (λ g.
       retail p (own-to (own-tail (own-start s p room) _) _)
       (record { settled = settled e; one = λ u. (refl, there) }) (λ q d. λ u. absurd (unborne g q u)))

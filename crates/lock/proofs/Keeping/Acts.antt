@@ -200,7 +200,7 @@ module _ {s : LockState} {p : ℕ} (w : Whole s) where
   old-try-kept : Stands s p oldTry → Whole (Acts.oldTry s p)
   unfolding Acts.oldTry suits every hasPlace
   old-try-kept x =
-      by-test Whole (isNone (s .tail)) (λ h. lands _ (put-tail x p (self-fits x)) refl) (λ h. lands _ x refl)
+      by-test Whole (Acts.unheld s) (λ h. lands _ (put-tail x p (self-fits x)) refl) (λ h. lands _ x refl)
 
   old-poll-kept : Stands s p oldPoll → Whole (Acts.oldPoll s p)
   unfolding Acts.oldPoll suits every hasPlace

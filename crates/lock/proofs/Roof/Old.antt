@@ -69,10 +69,9 @@ old-overtakes =
       entry = step 0;
       all = refl;
       other = eqb-false 0 1 refl;
-      failed = refl;
       left = refl;
       entered = refl;
-      waited = record { entries = refl; interrupts = refl };
+      waited = record { failed = refl; entries = refl; interrupts = refl };
     }
 
 -- ---- no bound
@@ -151,7 +150,7 @@ old-has-no-bound entries =
       p = 1;
       q = 0;
       other = eqb-false 0 1 refl;
-      failed = refl;
-      waited = rw there-first (record { entries = kept-out entries; interrupts = calm entries });
+      waited =
+          record { failed = refl; entries = rw there-first (kept-out entries); interrupts = rw there-first (calm entries) };
       entered = rw there-first (counted entries);
     }

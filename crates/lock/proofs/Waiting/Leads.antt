@@ -224,7 +224,7 @@ module _ (s : LockState) (p : ℕ) (there : p < length (s .rows)) (ok : Place �
   goes-old-try : At oldTry → Led oldTry → Goes s p ok (Acts.oldTry s p)
   unfolding Acts.oldTry
   goes-old-try here h =
-      by-either (Goes s p ok) (isNone (s .tail)) (ends here h _ refl (kept-tail _ kept-self)) (ends here h _ refl kept-self)
+      by-either (Goes s p ok) (Acts.unheld s) (ends here h _ refl (kept-tail _ kept-self)) (ends here h _ refl kept-self)
 
   goes-old-poll : At oldPoll → Led oldPoll → Goes s p ok (Acts.oldPoll s p)
   unfolding Acts.oldPoll
