@@ -1,7 +1,7 @@
-/* peer.c: lockbench once more, in C, written from document 01 and request [1] alone: a schedule on standard input, its
- * log on standard output. It is a yardstick for speed and no test, and nothing is proved of it: the state stands in one
- * static struct, each act writes the cells that it names in place, and nothing is copied. `benchmark/run` compiles it,
- * compares its logs and sets its time beside lockbench's. */
+/* peer.c: lockbench once more, in C, after document 01 and request [1]: a schedule on standard input, its log on
+ * standard output. It is a yardstick for speed and no test, and nothing is proved of it: the state stands in one static
+ * struct, each act writes the cells that it names in place, and nothing is copied. `benchmark/run` compiles it, compares
+ * its logs and sets its time beside lockbench's. */
 #include <stddef.h>
 #include <stdint.h>
 #include <unistd.h>
