@@ -1,5 +1,5 @@
--- Document 01, "The step table", and request [1]: the act of each place, under its name and with its sentence. s is the state, p
--- the processor that steps; "own" is p's row. Which act a step does is said in Table.
+-- Document 01, "The step table", and requests [1] and [2]: the act of each place, under its name and with its sentence. s is the
+-- state, p the processor that steps; "own" is p's row. Which act a step does is said in Table.
 use Prim.Native.Nat.{ℕ}
 use mathlib.Core.Bool.{Bool, true, false, _&&_, cond}
 use lib.Dec.{eqb}
@@ -115,11 +115,12 @@ peek s p =
     let peeked = (row s ((row s p) .succ)) .next in
     cond (isNone peeked) (toLift (putNx s p peeked) p) (to (putNx s p peeked) p 21)
 
--- 21 take: "succ's locked 3: make it 0, to 22. Otherwise nx := none, to 22"
+-- 21 take: "succ's locked 3: make it 0, to 22. Otherwise nx := none, to 22"; [2] "for the drawn edition only: a successful take
+-- goes to a new place 27"
 unfoldable pub take : LockState → ℕ → LockState
 take s p =
-    cond (eqb ((row s ((row s p) .succ)) .locked) RP) (toLift (putLocked s ((row s p) .succ) Released) p)
-    (toLift (putNx s p none) p)
+    cond (eqb ((row s ((row s p) .succ)) .locked) RP)
+    (to (putLocked s ((row s p) .succ) Released) p (cond (isDrawn (s .edition)) 27 22)) (toLift (putNx s p none) p)
 
 -- 22 lift: "succ's guard clear; nx none: to 0; otherwise succ := nx, to 17"
 unfoldable pub lift : LockState → ℕ → LockState
@@ -146,3 +147,15 @@ oldService s p = to s p 23
 -- 26 free: "L := none, to 0"
 unfoldable pub oldFree : LockState → ℕ → LockState
 oldFree s p = to (putTail s none) p 0
+
+-- ---- the second read of the drawn edition
+
+-- 27 reread: "reads succ's next again into nx. None: to place 28, lost ... Otherwise succ := nx, to 17"
+unfoldable pub reread : LockState → ℕ → LockState
+reread s p =
+    let again = (row s ((row s p) .succ)) .next in
+    cond (isNone again) (to (putNx s p again) p 28) (to (putSucc (putNx s p again) p again) p 17)
+
+-- 28 lost: "every step is accepted and changes nothing"
+unfoldable pub lost : LockState → ℕ → LockState
+lost s p = s

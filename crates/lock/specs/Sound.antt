@@ -1,5 +1,5 @@
--- Document 01, "A state is sound when": each part in the document's order, the places of each edition as its list there, and that
--- of request [1].
+-- Document 01, "A state is sound when": each part in the document's order, the places of each edition as its list there, and what
+-- requests [1] and [2] add.
 use Prim.Native.Nat.{ℕ}
 use mathlib.Core.Bool.{Bool, false, not, _&&_, _||_, cond}
 use mathlib.Core.List.{List, [], _∷_, _++_}
@@ -9,9 +9,9 @@ use Rattle.lock.specs.declared.LockState.{LockState}
 use Rattle.choice.specs.Every.{every}
 use Rattle.lock.specs.State.{processors, editions, isNone, isPlain, isDrawn, isGuarded, isOld, RP, row}
 
--- "23 rows": the places 0 to 22; [1] adds 23 to 26
+-- "23 rows": the places 0 to 22; [1] adds 23 to 26, [2] 27 and 28
 abbrev pub places : ℕ
-places = 27
+places = 29
 
 abbrev pub isIn : List ℕ → ℕ → Bool
 isIn [] k = false
@@ -21,9 +21,9 @@ isIn (x ∷ xs) k = eqb x k || isIn xs k
 abbrev pub plainPlaces : List ℕ
 plainPlaces = 0 ∷ 2 ∷ 3 ∷ 4 ∷ 5 ∷ 7 ∷ 9 ∷ 14 ∷ 15 ∷ 16 ∷ 17 ∷ []
 
--- "drawn has those and 6, 8, 10 to 13, 19, 20, 21"
+-- "drawn has those and 6, 8, 10 to 13, 19, 20, 21"; [2] "for the drawn edition only ... a new place 27 ... place 28"
 abbrev pub drawnPlaces : List ℕ
-drawnPlaces = plainPlaces ++ (6 ∷ 8 ∷ 10 ∷ 11 ∷ 12 ∷ 13 ∷ 19 ∷ 20 ∷ 21 ∷ [])
+drawnPlaces = plainPlaces ++ (6 ∷ 8 ∷ 10 ∷ 11 ∷ 12 ∷ 13 ∷ 19 ∷ 20 ∷ 21 ∷ 27 ∷ 28 ∷ [])
 
 -- "guarded has all of 0 to 22"
 abbrev pub guardedLast : ℕ
@@ -52,9 +52,9 @@ cellsSound n r =
 abbrev pub wantsPred : ℕ → Bool
 wantsPred k = leb 4 k && leb k 6
 
--- "17 to 22 a succ"
+-- "17 to 22 a succ"; [2] "Place 27 needs a succ"
 abbrev pub wantsSucc : ℕ → Bool
-wantsSucc k = leb 17 k && leb k 22
+wantsSucc k = (leb 17 k && leb k 22) || eqb k 27
 
 -- "21 also an nx"
 abbrev pub wantsNx : ℕ → Bool

@@ -1,5 +1,5 @@
--- Document 01, "The step table", and request [1]: the places by number and name, and the act of each. The old boards' lock has
--- places 0 and 9 with the others, and 23 to 26, try, poll, service and free, to itself.
+-- Document 01, "The step table", and requests [1] and [2]: the places by number and name, and the act of each. The old boards' lock
+-- has places 0 and 9 with the others, and 23 to 26, try, poll, service and free, to itself; 27 and 28 are the drawn edition's.
 use Prim.Native.Nat.{ℕ}
 use mathlib.Core.List.{List, [], _∷_}
 use lib.ListN.{getD}
@@ -7,14 +7,14 @@ use Rattle.lock.specs.declared.LockState.{LockState}
 use Rattle.lock.specs.State.{row}
 use Rattle.lock.specs.Acts as Acts
 
--- the 27 places, and nowhere for a number that is no place (no sound state has one)
+-- the 29 places, and nowhere for a number that is no place (no sound state has one)
 pub data Place : Type 0 where
-  rest gate clear swap arm link claim spin settle inside poll service back regain look close await hand fence park peek take lift oldTry oldPoll oldService oldFree nowhere : Place
+  rest gate clear swap arm link claim spin settle inside poll service back regain look close await hand fence park peek take lift oldTry oldPoll oldService oldFree reread lost nowhere : Place
 
 abbrev pub names : List Place
 names =
     rest ∷ gate ∷ clear ∷ swap ∷ arm ∷ link ∷ claim ∷ spin ∷ settle ∷ inside ∷ poll ∷ service ∷ back ∷ regain ∷ look ∷ close
-    ∷ await ∷ hand ∷ fence ∷ park ∷ peek ∷ take ∷ lift ∷ oldTry ∷ oldPoll ∷ oldService ∷ oldFree ∷ []
+    ∷ await ∷ hand ∷ fence ∷ park ∷ peek ∷ take ∷ lift ∷ oldTry ∷ oldPoll ∷ oldService ∷ oldFree ∷ reread ∷ lost ∷ []
 
 abbrev pub placeAt : ℕ → Place
 placeAt k = getD names k nowhere
@@ -48,6 +48,8 @@ act oldTry s p = Acts.oldTry s p
 act oldPoll s p = Acts.oldPoll s p
 act oldService s p = Acts.oldService s p
 act oldFree s p = Acts.oldFree s p
+act reread s p = Acts.reread s p
+act lost s p = Acts.lost s p
 act nowhere s p = s
 
 unfoldable pub stepped : LockState → ℕ → LockState

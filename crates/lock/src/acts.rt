@@ -1,5 +1,5 @@
-// The 27 acts of the step table of document 01 and request [1], each under its name. What an act does is said by the definition of
-// the same name in specs/Acts; the comments here say why the step is there.
+// The 29 acts of the step table of document 01 and requests [1] and [2], each under its name. What an act does is said by the
+// definition of the same name in specs/Acts; the comments here say why the step is there.
 use crate::LockState;
 ghost use mathlib.Core.Path.{_≡_};
 ghost use Rattle.lock.specs.Acts as Acts;
@@ -290,7 +290,9 @@ impl LockState {
         let succ = self.row(own.succ);
         let parked = succ.locked == LockState::RP;
         if parked {
-            self.put_locked(own.succ, LockState::RELEASED).to_lift(p)
+            let took = self.put_locked(own.succ, LockState::RELEASED);
+            let drawn = self.edition == LockState::DRAWN;
+            if drawn { took.to(p, 27) } else { took.to(p, 22) }
         } else {
             self.put_nx(p, LockState::NONE).to_lift(p)
         }
@@ -339,5 +341,27 @@ impl LockState {
         ensures { λ s. ⌜ s ≡ Acts.oldFree self p ⌝ }
     {
         self.put_tail(LockState::NONE).to(p, 0)
+    }
+
+    // The figure trusts this read, though succ may have come back and cleared its next since the peek: nobody holds it at a gate.
+    pub(crate) fn reread(self, p: u8) -> LockState
+        ensures { λ s. ⌜ s ≡ Acts.reread self p ⌝ }
+    {
+        let own = self.row(p);
+        let succ = self.row(own.succ);
+        let read = self.put_nx(p, succ.next);
+        let unlinked = succ.next == LockState::NONE;
+        if unlinked {
+            read.to(p, 28)
+        } else {
+            read.put_succ(p, succ.next).to(p, 17)
+        }
+    }
+
+    // It has the lock and knows nobody to hand it to.
+    pub(crate) fn lost(self, p: u8) -> LockState
+        ensures { λ s. ⌜ s ≡ Acts.lost self p ⌝ }
+    {
+        self
     }
 }

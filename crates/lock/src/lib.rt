@@ -65,7 +65,7 @@ impl LockState {
     // The limits.
     pub const PROCESSORS: u8 = 16;
 
-    pub const PLACES: u8 = 27;
+    pub const PLACES: u8 = 29;
 
     pub const NONE: u8 = 255;
 

@@ -42,6 +42,8 @@ const HAS: [[bool; EDITIONS]; PLACES] = [
     [false, false, false, true], // 24 poll
     [false, false, false, true], // 25 service
     [false, false, false, true], // 26 free
+    [false, true, false, false], // 27 reread
+    [false, true, false, false], // 28 lost
 ];
 
 fn has_place(edition: u8, place: u8) -> bool
@@ -83,7 +85,7 @@ fn place_sound(edition: u8, r: Row) -> bool
     let k = r.place;
     has_place(edition, k)
         & is_there((4 <= k) & (k <= 6), r.pred)
-        & is_there((17 <= k) & (k <= 22), r.succ)
+        & is_there(((17 <= k) & (k <= 22)) | (k == 27), r.succ)
         & is_there(k == 21, r.nx)
 }
 

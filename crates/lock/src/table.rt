@@ -37,6 +37,8 @@ impl LockState {
             24 => self.old_poll(p),
             25 => self.old_service(p),
             26 => self.old_free(p),
+            27 => self.reread(p),
+            28 => self.lost(p),
             _ => self,
         }
     }

@@ -1,5 +1,5 @@
 -- Which places an edition has: the constant table's rule, by one computed test.
---     has-right      the table of 27 rows and 4 columns is the four lists of document 01 and request [1]
+--     has-right      the table of 29 rows and 4 columns is the four lists of document 01 and requests [1] and [2]
 --     has-beyond     no edition has a place past the table
 --     has-none       no other edition has a place
 --     has-normal     the number may be taken for that of the place which it names
@@ -49,6 +49,8 @@ has =
     ∷ (false ∷ false ∷ false ∷ true ∷ [])
     ∷ (false ∷ false ∷ false ∷ true ∷ [])
     ∷ (false ∷ false ∷ false ∷ true ∷ [])
+    ∷ (false ∷ true ∷ false ∷ false ∷ [])
+    ∷ (false ∷ true ∷ false ∷ false ∷ [])
     ∷ []
 
 all-right : every places (λ k. every editions (λ e. Bool·beq (getD (getD has k []) e false) (hasPlace e k))) ≡ true

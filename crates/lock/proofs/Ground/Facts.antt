@@ -23,7 +23,7 @@ use Rattle.choice.proofs.Tests.{clash, implies}
 use Rattle.choice.proofs.Numbers.{every-at}
 use Rattle.lock.specs.State.{Released, Locked, Preempted, RP}
 use Rattle.lock.specs.Sound.{places}
-use Rattle.lock.specs.Table.{Place, placeAt, rest, gate, clear, swap, arm, link, claim, spin, settle, inside, poll, service, back, regain, look, close, await, hand, fence, park, peek, take, lift, oldTry, oldPoll, oldService, oldFree, nowhere}
+use Rattle.lock.specs.Table.{Place, placeAt, rest, gate, clear, swap, arm, link, claim, spin, settle, inside, poll, service, back, regain, look, close, await, hand, fence, park, peek, take, lift, oldTry, oldPoll, oldService, oldFree, reread, lost, nowhere}
 use Rattle.lock.proofs.Ground.Places.{place-far}
 
 -- not in the queue; joined and not yet in; away on an interrupt; in, or looking whom to hand on to; handing on; and at a place of
@@ -104,13 +104,15 @@ entry hand = at 17 releasing (always rel) free (0 ∷ 19 ∷ 18 ∷ [])
 entry fence = at 18 releasing (always rel) free (19 ∷ [])
 entry park = at 19 releasing (always rel) free (20 ∷ 22 ∷ 0 ∷ 17 ∷ [])
 entry peek = at 20 releasing (always lag) free (21 ∷ 22 ∷ 0 ∷ 17 ∷ [])
-entry take = at 21 releasing (always lag) free (22 ∷ 0 ∷ 17 ∷ [])
+entry take = at 21 releasing (always lag) free (27 ∷ 22 ∷ 0 ∷ 17 ∷ [])
 entry lift = at 22 releasing lifting free (0 ∷ 17 ∷ [])
 entry oldTry = at 23 apart (always out) free (9 ∷ 24 ∷ [])
 entry oldPoll = at 24 apart (always out) free (25 ∷ 23 ∷ [])
 entry oldService = at 25 apart (always out) free (23 ∷ [])
 entry oldFree = at 26 apart (always tok) free (0 ∷ [])
-entry nowhere = at 27 outer (always out) free (27 ∷ [])
+entry reread = at 27 releasing (always rel) free (28 ∷ 17 ∷ [])
+entry lost = at 28 releasing (always rel) free (28 ∷ [])
+entry nowhere = at 29 outer (always out) free (29 ∷ [])
 
 abbrev pub number : Place → ℕ
 number k = (entry k) .number

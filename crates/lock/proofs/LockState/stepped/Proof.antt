@@ -1,7 +1,7 @@
 -- `lock::LockState::stepped` meets its contract: each arm does the act that its number names.
 use borrow.Author.Needs.{needs}
 use mathlib.Core.Path.{refl}
-use Rattle.lock.specs.Table.{rest, gate, clear, swap, arm, link, claim, spin, settle, inside, poll, service, back, regain, look, close, await, hand, fence, park, peek, take, lift, oldTry, oldPoll, oldService, oldFree}
+use Rattle.lock.specs.Table.{rest, gate, clear, swap, arm, link, claim, spin, settle, inside, poll, service, back, regain, look, close, await, hand, fence, park, peek, take, lift, oldTry, oldPoll, oldService, oldFree, reread, lost}
 use Rattle.lock.proofs.Ground.Places.{at-place, at-nowhere}
 use Rattle.lock.proofs.LockState.stepped.Statement.{statement}
 use Rattle.lock.proofs.LockState.stepped.Tie as tie
@@ -88,7 +88,13 @@ returns-27 : tie.Need-returns-27
 returns-27 c = at-place _ _ 26 _ oldFree _ (c .before .before .row .ensures) (c .before .match .keys27) refl (c .old-free .ensures)
 
 returns-28 : tie.Need-returns-28
-returns-28 c = at-nowhere _ _ _ (c .before .row .ensures) (c .match .rest)
+returns-28 c = at-place _ _ 27 _ reread _ (c .before .before .row .ensures) (c .before .match .keys28) refl (c .reread .ensures)
+
+returns-29 : tie.Need-returns-29
+returns-29 c = at-place _ _ 28 _ lost _ (c .before .before .row .ensures) (c .before .match .keys29) refl (c .lost .ensures)
+
+returns-30 : tie.Need-returns-30
+returns-30 c = at-nowhere _ _ _ (c .before .row .ensures) (c .match .rest)
 
 pub stepped-spec : {M : Type 1} → statement M
-stepped-spec = tie.close (tie.spec (λ c κs. search needs) (λ c κs. search needs) (λ c κs. search needs) (λ c κs. search needs) (λ c κs. search needs) (λ c κs. search needs) (λ c κs. search needs) (λ c κs. search needs) (λ c κs. search needs) (λ c κs. search needs) (λ c κs. search needs) (λ c κs. search needs) (λ c κs. search needs) (λ c κs. search needs) (λ c κs. search needs) (λ c κs. search needs) (λ c κs. search needs) (λ c κs. search needs) (λ c κs. search needs) (λ c κs. search needs) (λ c κs. search needs) (λ c κs. search needs) (λ c κs. search needs) (λ c κs. search needs) (λ c κs. search needs) (λ c κs. search needs) (λ c κs. search needs) (λ c κs. search needs) returns returns-2 returns-3 returns-4 returns-5 returns-6 returns-7 returns-8 returns-9 returns-10 returns-11 returns-12 returns-13 returns-14 returns-15 returns-16 returns-17 returns-18 returns-19 returns-20 returns-21 returns-22 returns-23 returns-24 returns-25 returns-26 returns-27 returns-28)
+stepped-spec = tie.close (tie.spec (λ c κs. search needs) (λ c κs. search needs) (λ c κs. search needs) (λ c κs. search needs) (λ c κs. search needs) (λ c κs. search needs) (λ c κs. search needs) (λ c κs. search needs) (λ c κs. search needs) (λ c κs. search needs) (λ c κs. search needs) (λ c κs. search needs) (λ c κs. search needs) (λ c κs. search needs) (λ c κs. search needs) (λ c κs. search needs) (λ c κs. search needs) (λ c κs. search needs) (λ c κs. search needs) (λ c κs. search needs) (λ c κs. search needs) (λ c κs. search needs) (λ c κs. search needs) (λ c κs. search needs) (λ c κs. search needs) (λ c κs. search needs) (λ c κs. search needs) (λ c κs. search needs) (λ c κs. search needs) (λ c κs. search needs) returns returns-2 returns-3 returns-4 returns-5 returns-6 returns-7 returns-8 returns-9 returns-10 returns-11 returns-12 returns-13 returns-14 returns-15 returns-16 returns-17 returns-18 returns-19 returns-20 returns-21 returns-22 returns-23 returns-24 returns-25 returns-26 returns-27 returns-28 returns-29 returns-30)
