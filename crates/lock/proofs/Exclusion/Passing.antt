@@ -16,7 +16,7 @@ use Rattle.lock.specs.Sound.{places}
 use Rattle.lock.proofs.Ground.Writes.{Own, own-start, own-all, put-all, row-there, own-locked, own-nx, own-succ, own-to}
 use Rattle.lock.proofs.Ground.Facts.{rel, lag, isBearer, facts, factsAt, bears}
 use Rattle.lock.proofs.Exclusion.Token.{Sole, SoleRow, bearsRow, Excl, parked-bears, parked-left, free-locks, parked-locks, quiet}
-use Rattle.lock.proofs.Exclusion.Steps.{still, go, at, mine, settled, rest-excl, gate-excl, clear-excl, swap-excl, arm-excl, link-excl, spin-excl, settle-excl, inside-excl, poll-excl, service-excl, back-excl, regain-excl, look-excl, close-excl, await-excl, fence-excl, old-try-excl, old-poll-excl, old-service-excl, old-free-excl, guard-aside}
+use Rattle.lock.proofs.Exclusion.Steps.{still, go, at, mine, settled, rest-excl, gate-excl, clear-excl, swap-excl, arm-excl, link-excl, spin-excl, settle-excl, inside-excl, poll-excl, service-excl, back-excl, regain-excl, look-excl, close-excl, await-excl, fence-excl, old-try-excl, old-poll-excl, old-service-excl, old-free-excl, reread-excl, lost-excl, guard-aside}
 use Rattle.lock.proofs.Ground.Places.{Each, begin, _▹_}
 use Rattle.lock.specs.Acts as Acts
 
@@ -116,15 +116,19 @@ module _ (s : LockState) (p : ℕ) (x : Excl s) (room : p < length (s .rows)) wh
             )),
       )
 
-  pub claim-excl : placeAt (R .place) ≡ claim → Excl (Acts.claim s p)
-  unfolding Acts.claim putRow putLocked
-  claim-excl e =
-      by-test Excl (eqb ((row s (R .pred)) .locked) RP)
-      (λ g.
-      let w = taken (R .pred) (λ l. leb l Locked) g (fits e) refl in
+  -- p takes y's token and goes to the place at k
+  takes : (y k : ℕ) → eqb ((row s y) .locked) RP ≡ true → (factsAt k) .locks (R .locked) ≡ true → Excl (to (putLocked s y Released) p k)
+  unfolding putRow putLocked
+  takes y k g own =
+      let w = taken y ((factsAt k) .locks) g own (free-locks k) in
       lands (simp length-set (x .rooms)) (λ q d. w .1 q .0 d)
-      (own-to (own-start (putLocked s (R .pred) Released) p (rw length-set room)) _)
-      (record { settled = w .1 p .1 refl; one = λ u. (refl, w .0) }))
+      (own-to (own-start (putLocked s y Released) p (rw length-set room)) _)
+      (record { settled = w .1 p .1 refl; one = λ u. (refl, w .0) })
+
+  pub claim-excl : placeAt (R .place) ≡ claim → Excl (Acts.claim s p)
+  unfolding Acts.claim
+  claim-excl e =
+      by-test Excl (eqb ((row s (R .pred)) .locked) RP) (λ g. takes (R .pred) 8 g (fits e))
       (λ g. go s p x room _ e (λ h t f. still f (f .settled) (λ u. u)))
 
   -- p gives its token to y, whose locked becomes v
@@ -200,19 +204,12 @@ module _ (s : LockState) (p : ℕ) (x : Excl s) (room : p < length (s .rows)) wh
       (λ h t f. let f = at s p x room e f in still f (f .settled) (λ u. u)))
 
   pub take-excl : placeAt (R .place) ≡ take → Excl (Acts.take s p)
-  unfolding Acts.take putLocked putRow
+  unfolding Acts.take
   take-excl e =
       by-test Excl (eqb ((row s (R .succ)) .locked) RP)
       (λ g.
-      let w = taken (R .succ) (λ l. eqb l Released) g (fits e) refl in
-      lift-to-excl (putLocked s (R .succ) Released) p p
-      (record {
-        room = rw length-set room;
-        rooms = simp length-set (x .rooms);
-        others = λ q d. w .1 q .0 d;
-        free = w .1 p .1 refl;
-        right = λ u. (refl, w .0);
-      }))
+      by-either (λ k. Excl (to (putLocked s (R .succ) Released) p k)) (isDrawn (s .edition)) (takes (R .succ) 27 g (fits e))
+      (takes (R .succ) 22 g (fits e)))
       (λ g. lift-to-excl (putNx s p none) p (x .bearer) (nx-poised none e (fits e) (λ u. clash refl u)))
 
 -- on from the lift, from a state in which p still stands there
@@ -244,4 +241,4 @@ acts s p x h =
     ▹ poll-excl s p x h ▹ service-excl s p x h ▹ back-excl s p x h ▹ regain-excl s p x h ▹ look-excl s p x h
     ▹ close-excl s p x h ▹ await-excl s p x h ▹ hand-excl s p x h ▹ fence-excl s p x h ▹ park-excl s p x h
     ▹ peek-excl s p x h ▹ take-excl s p x h ▹ lift-excl s p x h ▹ old-try-excl s p x h
-    ▹ old-poll-excl s p x h ▹ old-service-excl s p x h ▹ old-free-excl s p x h
+    ▹ old-poll-excl s p x h ▹ old-service-excl s p x h ▹ old-free-excl s p x h ▹ reread-excl s p x h ▹ lost-excl s p x h

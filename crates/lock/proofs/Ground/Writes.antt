@@ -8,7 +8,6 @@
 --     row-put-either, put-all      the same after a single put, wherever it goes
 --     fresh-row        every row of the fresh state is as fresh
 --     row-there        a row that is not as fresh is one of the state's rows
---     locked-edition   a put leaves the edition
 --     some-row         the number of such a row is not the none mark
 use Prim.Native.Nat.{ℕ, zero, suc, _<_}
 use native.Mathlib.Omega.{arith}
@@ -213,11 +212,6 @@ fresh-where e n q false h = List·getD-eq-default (replicate processors freshRow
 
 pub fresh-row : (e n q : ℕ) → row (freshState e n) q ≡ freshRow
 fresh-row e n q = fresh-where e n q (ltb q processors) refl
-
--- a locked put leaves the edition
-pub locked-edition : (s : LockState) (y v : ℕ) → (putLocked s y v) .edition ≡ s .edition
-unfolding putLocked putRow
-locked-edition s y v = refl
 
 -- a processor is not the none mark
 pub some-row : (s : LockState) (p : ℕ) → length (s .rows) ≡ processors → p < length (s .rows) → p ≢ none

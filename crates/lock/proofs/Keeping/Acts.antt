@@ -11,10 +11,10 @@ use borrow.Author.Tests.{lt-ltb}
 use Rattle.lock.specs.declared.LockState.{LockState}
 use Rattle.choice.specs.Every.{every}
 use Rattle.choice.proofs.Tests.{by-test}
-use Rattle.lock.specs.State.{isNone, isPlain, isDrawn, isGuarded, isOld, Released, Locked, Preempted, RP, row, putRow, putTail, putNext, putLocked, putGuard, to, putPred, putSucc}
+use Rattle.lock.specs.State.{isNone, isPlain, isDrawn, isGuarded, isOld, Released, Locked, Preempted, RP, row, putRow, putTail, putNext, putLocked, putGuard, to, putPred, putSucc, putNx}
 use Rattle.lock.specs.Sound.{noneOrBelow, hasPlace, places}
 use Rattle.lock.specs.Kept.{Whole}
-use Rattle.lock.specs.Table.{Place, placeAt, act, rest, gate, clear, swap, arm, link, claim, spin, settle, inside, poll, service, back, regain, look, close, await, hand, fence, park, peek, take, lift, oldTry, oldPoll, oldService, oldFree}
+use Rattle.lock.specs.Table.{Place, placeAt, act, rest, gate, clear, swap, arm, link, claim, spin, settle, inside, poll, service, back, regain, look, close, await, hand, fence, park, peek, take, lift, oldTry, oldPoll, oldService, oldFree, reread, lost}
 use Rattle.lock.proofs.Keeping.Parts.{Known, Ready, standing}
 use Rattle.lock.proofs.Keeping.Puts.{put-next, put-locked, put-guard, put-flag, put-pred, put-succ, put-nx, put-tail, also, knowing, forgetting, pred-below, succ-below, suits, own-cells, lands, flag-kept}
 use Rattle.lock.proofs.Ground.Places.{Each, begin, _▹_}
@@ -185,10 +185,13 @@ module _ {s : LockState} {p : ℕ} (w : Whole s) where
       (λ h. lands _ (put-nx x ((row s q) .next) true fits (ap not h)) refl)
 
   take-kept : Stands s p take → Whole (Acts.take s p)
-  unfolding Acts.take suits every hasPlace
+  unfolding Acts.take putLocked putRow suits every hasPlace
   take-kept x =
+      let took = put-locked x _ _ (succ-below x refl) refl in
       by-test Whole (eqb ((row s ((row s p) .succ)) .locked) RP)
-      (λ h. lift-next-kept (put-locked x _ _ (succ-below x refl) refl) refl refl)
+      (λ h.
+      by-test (λ v. Whole (to (putLocked s ((row s p) .succ) Released) p v)) (isDrawn (s .edition))
+      (λ d. lands _ (knowing took isDrawn d) refl) (λ d. lands _ (knowing took (λ e. not (isDrawn e)) (ap not d)) refl))
       (λ h. lift-next-kept (put-nx x _ false refl refl) refl refl)
 
   lift-kept : Stands s p lift → Whole (Acts.lift s p)
@@ -215,10 +218,22 @@ module _ {s : LockState} {p : ℕ} (w : Whole s) where
   unfolding Acts.oldFree suits every hasPlace
   old-free-kept x = lands _ (put-tail x _ refl) refl
 
+  reread-kept : Stands s p reread → Whole (Acts.reread s p)
+  unfolding Acts.reread putNx putRow suits every hasPlace
+  reread-kept x =
+      let q = (row s p) .succ in
+      let fits : noneOrBelow (s .n) ((row s q) .next) ≡ true = x .base .rows q .cells (succ-below x refl) .next in
+      by-test Whole (isNone ((row s q) .next)) (λ h. lands _ (put-nx x ((row s q) .next) false fits refl) refl)
+      (λ h. lands _ (put-succ (put-nx x ((row s q) .next) true fits (ap not h)) ((row s q) .next) true fits (ap not h)) refl)
+
+  lost-kept : Stands s p lost → Whole (Acts.lost s p)
+  unfolding Acts.lost
+  lost-kept x = w
+
 -- the act of each place
 pub acts : {s : LockState} {p : ℕ} → Whole s → Each (λ m. Ready s p (standing m) → Whole (act (placeAt m) s p)) places
 acts w =
     begin ▹ rest-kept w ▹ gate-kept w ▹ clear-kept w ▹ swap-kept w ▹ arm-kept w ▹ link-kept w ▹ claim-kept w
     ▹ spin-kept w ▹ settle-kept w ▹ inside-kept w ▹ poll-kept w ▹ service-kept w ▹ back-kept w ▹ regain-kept w
     ▹ look-kept w ▹ close-kept w ▹ await-kept w ▹ hand-kept w ▹ fence-kept w ▹ park-kept w ▹ peek-kept w ▹ take-kept w
-    ▹ lift-kept w ▹ old-try-kept w ▹ old-poll-kept w ▹ old-service-kept w ▹ old-free-kept w
+    ▹ lift-kept w ▹ old-try-kept w ▹ old-poll-kept w ▹ old-service-kept w ▹ old-free-kept w ▹ reread-kept w ▹ lost-kept w

@@ -129,6 +129,7 @@ module _ (s : LockState) (g : Tickets) (p : ℕ) (v : Holds s g) (room : p < len
       ▹ still refl (park-holds s g p v room) ▹ still refl (peek-holds s g p v room)
       ▹ still refl (take-holds s g p v room) ▹ still refl (lift-holds s g p v room)
       ▹ still refl (lacked refl) ▹ still refl (lacked refl) ▹ still refl (lacked refl) ▹ still refl (lacked refl)
+      ▹ still refl (lacked refl) ▹ still refl (lacked refl)
 
   stepped-holds : Holds (stepped s p) (stepTickets s g p)
   unfolding stepped

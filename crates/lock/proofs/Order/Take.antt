@@ -12,17 +12,17 @@ use Rattle.lock.specs.declared.Row.{Row}
 use Rattle.lock.specs.declared.LockState.{LockState}
 use Rattle.choice.proofs.Tests.{clash, by-test}
 use Rattle.choice.proofs.Numbers.{by-same}
-use Rattle.lock.specs.State.{none, isNone, Released, RP, withGuard, row, putLocked, to, putSucc}
+use Rattle.lock.specs.State.{none, isNone, isDrawn, Released, RP, withGuard, row, putLocked, to, putSucc}
 use Rattle.lock.specs.Table.{placeAt, peek, take, lift}
 use Rattle.lock.proofs.Ground.Facts.{lag, facts, factsAt}
 use Rattle.lock.proofs.Order.Tickets.{Tickets}
-use Rattle.lock.proofs.Ground.Writes.{own-start, Both, both-start, row-there, both-succ, both-to, near-guard, near-locked, own-nx, own-to, locked-edition}
+use Rattle.lock.proofs.Ground.Writes.{own-start, Both, both-start, row-there, both-succ, both-to, near-guard, near-locked, own-nx, own-to}
 use Rattle.lock.proofs.Order.Roles.{parked-out, parked-settled, taking-lag}
 use Rattle.lock.proofs.Order.Statement.{Ghost, upd, upd-same, upd-other, upd-back, Linked, Rel, Lag, given-map, Fencing, Fenced, Fit, FitRow, Holds}
 use Rattle.lock.proofs.Order.Carry.{passed, refenced, refence-books, pass-fit, fenced-same, manned-same, fencing-map, refence, refence-fit, books-pop}
 use Rattle.lock.proofs.Order.Near.{duty-as, served-first, pop-asks, parked-tok-at}
 use Rattle.lock.proofs.Order.Build.{own-holds, both-holds, free-fit, relock}
-use Rattle.lock.proofs.Order.Quiet.{mine, to-lift, lag-on}
+use Rattle.lock.proofs.Order.Quiet.{ordered-drawn, mine, lag-on}
 use Rattle.lock.specs.Acts as Acts
 
 module _ (s : LockState) (g : Tickets) (p : ℕ) (v : Holds s g) (room : p < length (s .rows)) where
@@ -169,7 +169,9 @@ module _ (s : LockState) (g : Tickets) (p : ℕ) (v : Holds s g) (room : p < len
   take-holds e =
       let f = mine s g p v room e in
       by-test (λ t. Holds t g) (eqb (Y .locked) RP)
-      (λ h. to-lift s g p v room (putLocked s y Released) (locked-edition s y Released) (taken e h))
+      (λ h.
+      by-test (λ k. Holds (to (putLocked s y Released) p k) g) (isDrawn (s .edition))
+      (λ b. clash b (ordered-drawn (s .edition) (v .ordered))) (λ b. taken e h))
       (λ h. lag-on s g p v room (f .duty) (f .settles) (f .fencing) none refl)
 
   -- y's guard is clear again: no other fences it

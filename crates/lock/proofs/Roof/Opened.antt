@@ -15,6 +15,6 @@ unfolding every freshState row putRow putTail putNext putLocked putGuard putFlag
     cellsSound placeSound asFresh soundRow sound Acts.toQueue Acts.toHand Acts.onward Acts.toLift Acts.rest Acts.gate
     Acts.clear Acts.swap Acts.arm Acts.link Acts.claim Acts.spin Acts.settle Acts.inside Acts.poll Acts.service
     Acts.back Acts.regain Acts.look Acts.close Acts.await Acts.hand Acts.fence Acts.park Acts.peek Acts.take Acts.lift
-    Acts.unheld Acts.oldTry Acts.oldPoll Acts.oldService Acts.oldFree stepped raised happens after run stepsOf joins enters interrupted countIn joinsIn entriesIn interruptsIn
-    allEntriesIn latestJoin untilEntry between
+    Acts.unheld Acts.oldTry Acts.oldPoll Acts.oldService Acts.oldFree Acts.reread Acts.lost stepped raised happens after run
+    stepsOf joins enters interrupted countIn joinsIn entriesIn interruptsIn allEntriesIn latestJoin untilEntry between
 computed = true

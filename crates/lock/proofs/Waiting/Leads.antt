@@ -12,9 +12,9 @@ use lib.Dec.{eqb}
 use borrow.Author.Tests.{eqb-true, eqb-false}
 use Rattle.choice.specs.Every.{every}
 use Rattle.choice.proofs.Tests.{clash, and-left, and-right, right-of, implies, implied, by-either, by-test}
-use Rattle.lock.specs.State.{isNone, isPlain, isDrawn, isGuarded, isOld, Released, Locked, Preempted, RP, row, putTail, putNext, to, putPred}
+use Rattle.lock.specs.State.{isNone, isPlain, isDrawn, isGuarded, isOld, Released, Locked, Preempted, RP, row, putTail, putNext, putLocked, to, putPred}
 use Rattle.lock.specs.Sound.{isIn, places}
-use Rattle.lock.specs.Table.{Place, placeAt, act, rest, gate, clear, swap, arm, link, claim, spin, settle, inside, poll, service, back, regain, look, close, await, hand, fence, park, peek, take, lift, oldTry, oldPoll, oldService, oldFree}
+use Rattle.lock.specs.Table.{Place, placeAt, act, rest, gate, clear, swap, arm, link, claim, spin, settle, inside, poll, service, back, regain, look, close, await, hand, fence, park, peek, take, lift, oldTry, oldPoll, oldService, oldFree, reread, lost}
 use Rattle.lock.proofs.Ground.Places.{Each, begin, _▹_, at-number}
 use Rattle.lock.proofs.Ground.Facts.{Phase, entry, number, normal, phaseAt, isApart, at-facts}
 use Rattle.lock.proofs.Waiting.Kept.{Kept, kept-self, kept-tail, kept-next, kept-guard, kept-flag, kept-pred, kept-succ, kept-nx, kept-release, kept-own, kept-locked, Goes, goes-to, stays}
@@ -215,7 +215,9 @@ module _ (s : LockState) (p : ℕ) (there : p < length (s .rows)) (ok : Place �
   unfolding Acts.take
   goes-take here h =
       by-either (Goes s p ok) (eqb ((row s ((row s p) .succ)) .locked) RP)
-      (to-lift here h _ (kept-release _ kept-self) refl refl refl) (to-lift here h _ (kept-nx _ _ kept-self) refl refl refl)
+      (by-either (λ v. Goes s p ok (to (putLocked s ((row s p) .succ) Released) p v)) (isDrawn (s .edition))
+      (ends here h _ refl (kept-release _ kept-self)) (ends here h _ refl (kept-release _ kept-self)))
+      (to-lift here h _ (kept-nx _ _ kept-self) refl refl refl)
 
   goes-lift : At lift → Led lift → Goes s p ok (Acts.lift s p)
   unfolding Acts.lift
@@ -239,12 +241,23 @@ module _ (s : LockState) (p : ℕ) (there : p < length (s .rows)) (ok : Place �
   unfolding Acts.oldFree
   goes-old-free here h = ends here h _ refl (kept-tail _ kept-self)
 
+  goes-reread : At reread → Led reread → Goes s p ok (Acts.reread s p)
+  unfolding Acts.reread
+  goes-reread here h =
+      by-either (Goes s p ok) (isNone ((row s ((row s p) .succ)) .next)) (ends here h _ refl (kept-nx _ _ kept-self))
+      (ends here h _ refl (kept-succ _ _ (kept-nx _ _ kept-self)))
+
+  goes-lost : At lost → Led lost → Goes s p ok (Acts.lost s p)
+  unfolding Acts.lost
+  goes-lost here h = remains here h refl refl kept-self
+
   -- the act of each place
   acts : Each (λ m. At (placeAt m) → Led (placeAt m) → Goes s p ok (act (placeAt m) s p)) places
   acts =
       begin ▹ goes-rest ▹ goes-gate ▹ goes-clear ▹ goes-swap ▹ goes-arm ▹ goes-link ▹ goes-claim ▹ goes-spin ▹ goes-settle
       ▹ goes-inside ▹ goes-poll ▹ goes-service ▹ goes-back ▹ goes-regain ▹ goes-look ▹ goes-close ▹ goes-await ▹ goes-hand
       ▹ goes-fence ▹ goes-park ▹ goes-peek ▹ goes-take ▹ goes-lift ▹ goes-old-try ▹ goes-old-poll ▹ goes-old-service ▹ goes-old-free
+      ▹ goes-reread ▹ goes-lost
 
   pub goes : Led (placeAt ((row s p) .place)) → Goes s p ok (act (placeAt ((row s p) .place)) s p)
   goes h =
