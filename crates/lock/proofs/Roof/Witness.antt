@@ -114,25 +114,26 @@ past-the-bound bound =
     let two : 2 ≤ 1 = bound twiceBefore (step 1) twiceLater 1 refl (lit≤ tt) in
     omega arith
 
--- halo_drawn_three: drawn, N 3. 0 joins (call 60), takes no interrupt and enters at call 83; 2 joins behind it (call 66) and
--- enters before it (call 75). So the drawn edition has no order, even for those that take no interrupt.
+-- halo_drawn_three: drawn, N 3. 0 joins (call 65), takes no interrupt and enters at call 78; 1 joins behind it (call 69) and
+-- enters before it (call 74). So the drawn edition has no order, even for those that take no interrupt.
 
 abbrev drawnBefore : List Call
 drawnBefore =
-    steps 0 3 ++ steps 1 7 ++ raise 1 ∷ steps 1 1 ++ steps 0 4 ++ steps 2 5 ++ steps 0 1 ++ steps 2 1 ++ steps 1 9 ++ raise 1
-    ∷ steps 1 1 ++ steps 2 6 ++ steps 0 1 ++ steps 1 4 ++ steps 2 4 ++ steps 0 1 ++ steps 2 6 ++ steps 1 1 ++ steps 0 2
+    steps 0 3 ++ steps 1 7 ++ steps 2 5 ++ raise 1 ∷ steps 1 1 ++ steps 0 5 ++ steps 2 2 ++ steps 1 9 ++ raise 1 ∷ steps 1 1
+    ++ steps 2 4 ++ steps 0 1 ++ steps 1 9 ++ steps 0 1 ++ steps 2 1 ++ raise 1 ∷ steps 1 1 ++ steps 0 2 ++ steps 2 2 ++ steps 1 4
+    ++ steps 0 3
 
 abbrev drawnSeen : List Call
-drawnSeen = steps 0 1 ++ steps 1 2 ++ steps 2 4 ++ steps 1 3 ++ steps 0 2 ++ steps 2 2
+drawnSeen = steps 0 3 ++ steps 1 4 ++ steps 2 1
 
 abbrev drawnUnseen : List Call
-drawnUnseen = steps 2 3 ++ steps 1 4
+drawnUnseen = steps 1 3
 
 drawn : Order 1 3 noInterrupt → ⊥
 unfolding computed
 drawn order =
-    let later : 66 < 60 =
-    order drawnBefore (step 0) (drawnSeen ++ step 2 ∷ drawnUnseen ++ steps 0 1) 0 refl refl drawnSeen (step 2) drawnUnseen 2 refl refl in
+    let later : 69 < 65 =
+    order drawnBefore (step 0) (drawnSeen ++ step 1 ∷ drawnUnseen ++ steps 0 1) 0 refl refl drawnSeen (step 1) drawnUnseen 1 refl refl in
     omega arith
 
 -- ---- The order with interrupts is not empty. Guarded, N 3: 2 joins (call 15), takes an interrupt and comes back in time; 1,
