@@ -2,7 +2,7 @@
 --     clash                    no test comes out both ways
 --     and-left, and-right      the halves of a conjunction; and-both the other way
 --     and-rest                 what a conjunction comes to whose first half holds
---     left-of, right-of        one half of a disjunction, where the other fails; neither-left where both fail
+--     left-of, right-of        one half of a disjunction, where the other fails; neither-left, neither-right where both fail
 --     implies, implied         a test that follows from another
 --     beq-eq                   two Bools that a test finds equal are equal
 --     by-test                  a choice has what its value has, by the test; by-either where both values have it
@@ -42,6 +42,10 @@ right-of false b e f = e
 pub neither-left : (a b : Bool) → a || b ≡ false → a ≡ false
 neither-left true b e = e
 neither-left false b e = refl
+
+pub neither-right : (a b : Bool) → a || b ≡ false → b ≡ false
+neither-right true b e = clash refl e
+neither-right false b e = e
 
 abbrev pub implies : Bool → Bool → Bool
 implies a b = not a || b

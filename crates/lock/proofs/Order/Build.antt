@@ -6,13 +6,13 @@
 --     relock                       another locked on a row that may be fenced
 use Prim.Native.Nat.{ℕ, suc}
 use mathlib.Core.Path.{_≡_, sym, subst, _∙_}
-use mathlib.Core.Bool.{Bool, true, not, _&&_, cond}
+use mathlib.Core.Bool.{Bool, true, not, _&&_, _||_, cond}
 use mathlib.Core.Logic.{_≢_}
 use lib.Dec.{leb}
 use borrow.Author.Tests.{not-true}
 use Rattle.lock.specs.declared.Row.{Row}
 use Rattle.lock.specs.declared.LockState.{LockState}
-use Rattle.choice.proofs.Tests.{and-left, and-right}
+use Rattle.choice.proofs.Tests.{and-left, and-right, neither-left, neither-right}
 use Rattle.lock.specs.State.{isNone, row}
 use Rattle.lock.proofs.Ground.Facts.{Facts, isLeft, settled}
 use Rattle.lock.proofs.Order.Tickets.{Tickets, isOrdered}
@@ -56,7 +56,7 @@ quiet v o mine = own-holds v (v .ghost) o (v .books) mine (λ q d. v .fits q)
 
 -- the places at which pred, next, succ and nx are not spoken of, beyond the role
 abbrev pub isFree : Facts → Bool
-isFree st = not (st .joining) && not (st .swaps) && not (st .fences) && not (st .takes) && (st .opens)
+isFree st = not (st .joining) && not (st .swaps) && not (st .fences) && not (st .takes || st .lifts) && (st .opens)
 
 pub free-fit :
     {e : ℕ} {g : Tickets} {G : Ghost} {q : ℕ} {st : Facts} {l next pred succ nx : ℕ} {guard : Bool} → isFree st ≡ true
@@ -68,10 +68,11 @@ free-fit {g = g} {G = G} {q = q} {st = st} {succ = succ} free small settles duty
     let a = not (st .joining) in
     let b = not (st .swaps) in
     let c = not (st .fences) in
-    let d = not (st .takes) in
+    let d = not (st .takes || st .lifts) in
     let abcd = and-left (a && b && c && d) (st .opens) free in
     let abc = and-left (a && b && c) d abcd in
     let ab = and-left (a && b) c abc in
+    let neither = not-true (st .takes || st .lifts) (and-right (a && b && c) d abcd) in
     record {
       small = small;
       settles = settles;
@@ -79,7 +80,7 @@ free-fit {g = g} {G = G} {q = q} {st = st} {succ = succ} free small settles duty
       joins = rw (not-true (st .joining) (and-left a b ab)) tt;
       blank = rw (not-true (st .swaps) (and-right a b ab)) tt;
       fencing = rw (not-true (st .fences) (and-right (a && b) c abc)) idle;
-      peeking = rw (not-true (st .takes) (and-right (a && b && c) d abcd)) tt;
+      peeking = rw (neither-left (st .takes) (st .lifts) neither, neither-right (st .takes) (st .lifts) neither) (tt, tt);
       shut = λ k. and-right (a && b && c && d) (st .opens) free;
       fenced = fenced;
       manned = manned;

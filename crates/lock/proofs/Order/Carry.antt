@@ -11,14 +11,14 @@
 --     books-pop            the books when one goes from the front
 use Prim.Native.Nat.{ℕ, suc, _<_, _≤_}
 use mathlib.Core.Path.{_≡_, refl, sym, ap, _∙_}
-use mathlib.Core.Bool.{Bool, true, false, cond}
+use mathlib.Core.Bool.{Bool, true, false, _||_, cond}
 use mathlib.Core.Logic.{_≢_}
 use native.Mathlib.Omega.{arith}
 use Rattle.lock.specs.State.{none, isNone}
 use Rattle.lock.proofs.Ground.Facts.{Role, out, raw, wait, tok, rel, lag, Facts}
 use Rattle.lock.proofs.Order.Tickets.{Tickets}
 use Rattle.lock.proofs.Order.Roles.{isQueued}
-use Rattle.lock.proofs.Order.Statement.{Ghost, Books, Linked, Queued, Raw, Wait, Tok, Rel, Lag, Duty, given-map, Fencing, Fenced, Fit}
+use Rattle.lock.proofs.Order.Statement.{Ghost, Books, Linked, Queued, Raw, Wait, Tok, Rel, Lag, Duty, given-map, Fencing, Fenced, peeking-map, Fit}
 
 abbrev pub moved : Ghost → (a u : ℕ) → (ℕ → ℕ) → (ℕ → Bool) → ℕ → Ghost
 moved G a u J W r =
@@ -187,7 +187,7 @@ module _ (g : Tickets) (G : Ghost) (F : ℕ → ℕ) (K : ℕ → Bool) (Z : ℕ
       {e q : ℕ} {st : Facts} {l next pred succ nx : ℕ} {guard old : Bool}
       → (Lag g G q succ → (F succ ≡ suc q) × (K succ ≡ true))
       → (Fencing (st .fences) (G .fencer) q succ → Fencing (st .fences) F q succ)
-      → ((st .takes) ≡ true → (G .peeked succ ≡ nx) × (nx ≢ none) → (Z succ ≡ nx) × (nx ≢ none))
+      → (st .takes || st .lifts ≡ true → Z succ ≡ G .peeked succ)
       → (guard ≡ true → (st .opens) ≡ true)
       → (F q ≢ 0 → Fenced (K q) (Z q) l next guard)
       → (guard ≡ true → (e ≢ 0) × (F q ≢ 0))
@@ -200,7 +200,7 @@ module _ (g : Tickets) (G : Ghost) (F : ℕ → ℕ) (K : ℕ → Bool) (Z : ℕ
         joins = f .joins;
         blank = f .blank;
         fencing = fe (f .fencing);
-        peeking = given-map (st .takes) pe (f .peeking);
+        peeking = peeking-map (st .takes) (st .lifts) succ nx pe (f .peeking);
         shut = sh;
         fenced = fd;
         manned = mn;

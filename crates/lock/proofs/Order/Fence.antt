@@ -18,7 +18,7 @@ use Rattle.lock.proofs.Ground.Facts.{rel, lag, facts, factsAt, isLeft}
 use Rattle.lock.proofs.Order.Tickets.{Tickets}
 use Rattle.lock.proofs.Keeping.Parts.{row-has}
 use Rattle.lock.proofs.Ground.Writes.{both-start, both-to, near-guard}
-use Rattle.lock.proofs.Order.Roles.{wait-open, wait-stays, fences-kind, taking-lag, plain-fencing}
+use Rattle.lock.proofs.Order.Roles.{wait-open, wait-stays, fences-kind, peeked-fences, plain-fencing}
 use Rattle.lock.proofs.Order.Statement.{Ghost, upd, upd-same, upd-other, upd-back, Rel, Lag, Fenced, Fit, FitRow, Holds}
 use Rattle.lock.proofs.Order.Carry.{refenced, refence-books, fenced-same, manned-same, fencing-map, refence, refence-fit}
 use Rattle.lock.proofs.Order.Near.{duty-as, Heir, heir-waits}
@@ -93,13 +93,7 @@ module _ (s : LockState) (g : Tickets) (p : ℕ) (v : Holds s g) (room : p < len
       (fencing-map (st .fences) (G .fencer) F q (r .succ)
       (λ b k. upd-other (G .fencer) y (suc p) (r .succ) (no-fence q a b) ∙ k)
       (λ x k. upd-back (G .fencer) y (suc p) (suc q) x (λ z. a (omega arith)) k))
-      (λ k w. (
-        upd-other (G .peeked) y none (r .succ)
-            (no-lag q (duty-as s g v q {ρ = lag} (taking-lag (r .place) (r .locked) (isNone (r .nx)) ((v .fits q) .small) k)))
-            ∙ w .0,
-        w .1,
-      ))
-      sh fd mn (v .fits q)
+      (λ k. upd-other (G .peeked) y none (r .succ) (no-fence q a (peeked-fences (r .place) k))) sh fd mn (v .fits q)
 
   own : FitRow (s .edition) g (refenced G F K Z) p (withPlace R 19)
   own =
@@ -115,7 +109,7 @@ module _ (s : LockState) (g : Tickets) (p : ℕ) (v : Holds s g) (room : p < len
           by-same (λ x. F x ≡ suc p → x ≡ y) y (λ k. refl)
               (λ x c k. absurd (f .fencing x (sym (upd-other (G .fencer) y (suc p) x c) ∙ k))),
         );
-        peeking = tt;
+        peeking = (tt, tt);
         shut = λ k. refl;
         fenced =
             fenced-same G F K Z p (R .locked) (R .next) (R .guard) (upd-other (G .fencer) y (suc p) p (heir .apart))

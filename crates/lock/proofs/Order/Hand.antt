@@ -160,7 +160,7 @@ module _ (s : LockState) (g : Tickets) (p : ℕ) (v : Holds s g) (room : p < len
         joins = tt;
         blank = tt;
         fencing = on;
-        peeking = tt;
+        peeking = (tt, tt);
         shut = λ k. refl;
         fenced = fenced-same H (G .fencer) K (G .peeked) p (R .locked) (R .next) (R .guard) refl
             (same p (z .apart)) refl (f .fenced);
@@ -183,7 +183,7 @@ module _ (s : LockState) (g : Tickets) (p : ℕ) (v : Holds s g) (room : p < len
       })
       (λ q a b.
       let r = row s q in
-      refence-fit g H (G .fencer) K (G .peeked) (λ k. (k .fenced, more (r .succ) (k .parked))) (λ w. w) (λ k w. w)
+      refence-fit g H (G .fencer) K (G .peeked) (λ k. (k .fenced, more (r .succ) (k .parked))) (λ w. w) (λ k. refl)
       ((v .fits q) .shut)
       (fenced-same H (G .fencer) K (G .peeked) q (r .locked) (r .next) (r .guard) refl (same q b) refl
       ((v .fits q) .fenced)) ((v .fits q) .manned)
@@ -214,7 +214,7 @@ module _ (s : LockState) (g : Tickets) (p : ℕ) (v : Holds s g) (room : p < len
         joins = tt;
         blank = tt;
         fencing = f .fencing;
-        peeking = tt;
+        peeking = (tt, λ some other. absurd (other refl));
         shut = λ k. refl;
         fenced = f .fenced;
         manned = f .manned;

@@ -238,7 +238,7 @@ module _ (s : LockState) (g : Tickets) (p : ℕ) (v : Holds s g) (room : p < len
                 last .1 i at ∙ sym (who-same g G p u (v .books .past) (λ z. refl) i (omega arith));
             blank = tt;
             fencing = f .fencing;
-            peeking = tt;
+            peeking = (tt, tt);
             shut = f .shut;
             fenced = f .fenced;
             manned = f .manned;

@@ -88,7 +88,7 @@ module _ (s : LockState) (g : Tickets) (p : ℕ) (v : Holds s g) (room : p < len
         joins = f .joins;
         blank = tt;
         fencing = f .fencing;
-        peeking = tt;
+        peeking = (tt, tt);
         shut = λ k. refl;
         fenced = fenced;
         manned = f .manned;

@@ -74,7 +74,7 @@ module _ (s : LockState) (g : Tickets) (p : ℕ) (v : Holds s g) (room : p < len
         joins = tt;
         blank = tt;
         fencing = idle;
-        peeking = tt;
+        peeking = (tt, tt);
         shut = λ k. clash k unset;
         fenced = (v .fits p) .fenced;
         manned = (v .fits p) .manned;
@@ -117,7 +117,7 @@ module _ (s : LockState) (g : Tickets) (p : ℕ) (v : Holds s g) (room : p < len
         joins = tt;
         blank = refl;
         fencing = f .fencing;
-        peeking = tt;
+        peeking = (tt, tt);
         shut = f .shut;
         fenced = λ d. clash (f .shut ((f .fenced d) .set)) refl;
         manned = f .manned;
@@ -135,7 +135,7 @@ module _ (s : LockState) (g : Tickets) (p : ℕ) (v : Holds s g) (room : p < len
         joins = f .joins;
         blank = tt;
         fencing = f .fencing;
-        peeking = tt;
+        peeking = (tt, tt);
         shut = f .shut;
         fenced = λ d. clash (f .shut ((f .fenced d) .set)) refl;
         manned = f .manned;
@@ -234,7 +234,7 @@ module _ (s : LockState) (g : Tickets) (p : ℕ) (v : Holds s g) (room : p < len
         joins = tt;
         blank = tt;
         fencing = fe;
-        peeking = tt;
+        peeking = (tt, λ some other. absurd (some (eqb-true x _ none)));
         shut = λ k. refl;
         fenced = (v .fits p) .fenced;
         manned = (v .fits p) .manned;

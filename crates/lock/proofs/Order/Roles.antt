@@ -6,7 +6,7 @@
 --     preempted-tok, preempted-settled               Preempted: parking makes it R_P
 --     wait-tok, wait-open, wait-stays                who waits takes the lock when Released, is open, and is neither Released nor R_P
 --     queued-joined, member-queued                   who is in the queue is not about to join it; a member of the queue has such a role
---     fences-kind, taking-lag                        who fences hands on or lags; who takes lags
+--     fences-kind, peeked-fences                     who fences hands on or lags; who has peeked fences
 --     swap-place                                     only place 3 is the swap
 --     plain-fencing, plain-wait                      in the plain edition nobody fences, and who waits is Locked
 use Prim.Native.Nat.{ℕ, suc, _≤_}
@@ -173,7 +173,7 @@ member-queued m l x h =
     implied (queues (phaseAt m) l) (isQueued (role m l x))
     (table (λ k l x. implies (queues ((entry k) .phase) l) (isQueued ((facts k) .role l x))) refl m l x h)
 
--- who fences hands on or lags; who is at 21 lags
+-- who fences hands on or lags; who is at 21 or 22 fences
 pub fences-kind :
     (m l : ℕ) (x : Bool) → leb l 3 ≡ true → (factsAt m) .fences ≡ true → (role m l x ≡ rel) ⊎ (role m l x ≡ lag)
 unfolding every
@@ -190,9 +190,11 @@ fences-kind m l x h e =
     either false true f g o = inr (is-same (role m l x) lag g)
     either false false f g o = clash o refl
 
-pub taking-lag : (m l : ℕ) (x : Bool) → leb l 3 ≡ true → (factsAt m) .takes ≡ true → role m l x ≡ lag
+pub peeked-fences : (m : ℕ) → (factsAt m) .takes || (factsAt m) .lifts ≡ true → (factsAt m) .fences ≡ true
 unfolding every
-taking-lag = because (λ f l. f .takes) (λ l. l) lag refl
+peeked-fences m h =
+    implied ((factsAt m) .takes || (factsAt m) .lifts) ((factsAt m) .fences)
+    (at-facts (λ k. implies ((facts k) .takes || (facts k) .lifts) ((facts k) .fences)) refl m) h
 
 -- only place 3 is the swap
 pub swap-place : (m : ℕ) → placeAt m ≡ swap → eqb m 3 ≡ true

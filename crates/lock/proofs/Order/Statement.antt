@@ -9,11 +9,12 @@
 --     Raw, Wait, Tok, Rel, Lag, Duty           what is said of a row by its role
 --     given, given-map                         what is said only where a test holds
 --     Fencing, Fenced  who fences, and what a fence on a row keeps
+--     Peeking, peeking-map     who has peeked at the row that it fences
 --     Fit, FitRow      all that is said of a row
 --     Holds            the invariant of a state
 use Prim.Native.Nat.{ℕ, suc, _<_, _≤_}
 use mathlib.Core.Path.{_≡_, refl, sym, ap, _∙_}
-use mathlib.Core.Bool.{Bool, true, false, cond}
+use mathlib.Core.Bool.{Bool, true, false, cond, _||_}
 use mathlib.Core.Logic.{_≢_}
 use lib.Dec.{eqb, leb}
 use lib.ListN.{length}
@@ -149,6 +150,17 @@ pub record Fenced (lagged : Bool) (peeked l next : ℕ) (guard : Bool) : Type 0 
   pub still : lagged ≡ true → isLeft l ≡ true
   pub kept : peeked ≢ none → next ≡ peeked
 
+-- z is what was peeked at succ's next, and nx has it: at 21, and still at 22 unless nx is none or the succ itself
+abbrev pub Peeking : (takes lifts : Bool) → (z succ nx : ℕ) → Type 0
+Peeking takes lifts z succ nx = given takes ((z ≡ nx) × (nx ≢ none)) × given lifts (nx ≢ none → nx ≢ succ → z ≡ nx)
+
+pub peeking-map :
+    (takes lifts : Bool) {z w : ℕ} (succ nx : ℕ) → (takes || lifts ≡ true → w ≡ z) → Peeking takes lifts z succ nx
+    → Peeking takes lifts w succ nx
+peeking-map true lifts succ nx same k =
+    ((same refl ∙ k .0 .0, k .0 .1), given-map lifts (λ b u some other. same refl ∙ u some other) (k .1))
+peeking-map false lifts succ nx same k = (tt, given-map lifts (λ b u some other. same b ∙ u some other) (k .1))
+
 -- e is the edition, q the processor, then the facts of its place and its row's cells; the heir is nx at 22, otherwise succ
 pub record Fit (e : ℕ) (g : Tickets) (G : Ghost) (q : ℕ) (st : Facts) (l next pred succ nx : ℕ) (guard : Bool) : Type 0 where
   -- locked by place
@@ -162,8 +174,8 @@ pub record Fit (e : ℕ) (g : Tickets) (G : Ghost) (q : ℕ) (st : Facts) (l nex
   pub blank : given (st .swaps) (next ≡ none)
   -- 19 to 22: the succ is fenced
   pub fencing : Fencing (st .fences) (G .fencer) q succ
-  -- 21: nx is what was peeked at
-  pub peeking : given (st .takes) ((G .peeked succ ≡ nx) × (nx ≢ none))
+  -- 21 and 22: nx is what was peeked at
+  pub peeking : Peeking (st .takes) (st .lifts) (G .peeked succ) succ nx
   -- a set guard: not at 2 to 5, not in the plain edition, and somebody fences the row
   pub shut : guard ≡ true → (st .opens) ≡ true
   pub manned : guard ≡ true → (e ≢ 0) × (G .fencer q ≢ 0)

@@ -17,7 +17,7 @@ use Rattle.lock.specs.Table.{placeAt, peek, take, lift}
 use Rattle.lock.proofs.Ground.Facts.{lag, facts, factsAt}
 use Rattle.lock.proofs.Order.Tickets.{Tickets}
 use Rattle.lock.proofs.Ground.Writes.{own-start, Both, both-start, row-there, both-succ, both-to, near-guard, near-locked, own-nx, own-to}
-use Rattle.lock.proofs.Order.Roles.{parked-out, parked-settled, taking-lag}
+use Rattle.lock.proofs.Order.Roles.{parked-out, parked-settled, peeked-fences}
 use Rattle.lock.proofs.Order.Statement.{Ghost, upd, upd-same, upd-other, upd-back, Linked, Rel, Lag, given-map, Fencing, Fenced, Fit, FitRow, Holds}
 use Rattle.lock.proofs.Order.Carry.{passed, refenced, refence-books, pass-fit, fenced-same, manned-same, fencing-map, refence, refence-fit, books-pop}
 use Rattle.lock.proofs.Order.Near.{duty-as, served-first, pop-asks, parked-tok-at}
@@ -57,7 +57,7 @@ module _ (s : LockState) (g : Tickets) (p : ℕ) (v : Holds s g) (room : p < len
         joins = tt;
         blank = tt;
         fencing = on;
-        peeking = (upd-same (G .peeked) y (Y .next), eqb-false (Y .next) none h);
+        peeking = ((upd-same (G .peeked) y (Y .next), eqb-false (Y .next) none h), tt);
         shut = λ k. refl;
         fenced =
             fenced-same G (G .fencer) (G .lagged) Z p (R .locked) (R .next) (R .guard) refl refl
@@ -68,10 +68,10 @@ module _ (s : LockState) (g : Tickets) (p : ℕ) (v : Holds s g) (room : p < len
       let r = row s q in
       let fq = v .fits q in
       refence-fit g G (G .fencer) (G .lagged) Z (λ k. (k .fenced, k .parked)) (λ w. w)
-      (λ k w.
-      let la : Lag g G q (r .succ) = duty-as s g v q
-      (taking-lag (r .place) (r .locked) (isNone (r .nx)) (fq .small) k) in
-      (upd-other (G .peeked) y (Y .next) (r .succ) (not-mine (on .0) q (r .succ) a (la .fenced)) ∙ w .0, w .1))
+      (λ k.
+      let qs : Fencing true (G .fencer) q (r .succ) =
+      subst (λ b. Fencing b (G .fencer) q (r .succ)) (peeked-fences (r .place) k) (fq .fencing) in
+      upd-other (G .peeked) y (Y .next) (r .succ) (not-mine (on .0) q (r .succ) a (qs .0)))
       (fq .shut) (peeked q) (fq .manned) fq))
     where
       f : Fit (s .edition) g G p (facts peek) (R .locked) (R .next) (R .pred) (R .succ) (R .nx) (R .guard)
@@ -109,7 +109,7 @@ module _ (s : LockState) (g : Tickets) (p : ℕ) (v : Holds s g) (room : p < len
       let f = mine s g p v room e in
       let d = f .duty in
       let on = f .fencing in
-      let saw = f .peeking in
+      let saw = f .peeking .0 in
       let w = parked-tok-at s g v y h in
       let front = served-first s g v (w .0) .0 in
       let serve = served-first s g v (w .0) .1 in
@@ -140,7 +140,7 @@ module _ (s : LockState) (g : Tickets) (p : ℕ) (v : Holds s g) (room : p < len
         joins = tt;
         blank = tt;
         fencing = on;
-        peeking = tt;
+        peeking = (tt, λ some other. saw .0);
         shut = λ k. refl;
         fenced = f .fenced;
         manned = f .manned;
@@ -204,7 +204,7 @@ module _ (s : LockState) (g : Tickets) (p : ℕ) (v : Holds s g) (room : p < len
           (fencing-map ((factsAt ((row s q) .place)) .fences) (G .fencer) F q x
           (λ b k. upd-other (G .fencer) y 0 x (not-mine (on .0) q x a k) ∙ k)
           (λ x k. upd-back (G .fencer) y 0 (suc q) x (λ z. omega arith) k))
-          (λ k w. w) sh fd mn (v .fits q)
+          (λ k. refl) sh fd mn (v .fits q)
 
   -- on from the lift, once the guard of the row that p fences is clear
   lift-on : placeAt (R .place) ≡ lift → (t : LockState) → Both s t p y R (withGuard Y false) → Holds (Acts.onward t p) g
