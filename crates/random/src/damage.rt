@@ -133,7 +133,7 @@ fn near_row(d: Dice, edge: u64, n: u8) -> Dice {
     }
 }
 
-// a place in or beside the range that needs the cell, in `got`: pred is needed at 4 to 6, succ at 17 to 22, nx at 21
+// a place among or beside those that need the cell, in `got`: pred is needed at 4 to 6, succ at 17 to 22 and 27, nx at 21
 fn needing(d: Dice, cell: u64) -> Dice {
     match cell {
         PRED => d.roll(5).plus(3),

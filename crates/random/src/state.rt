@@ -18,7 +18,7 @@ struct Drawn {
     dice: Dice,
 }
 
-// Place k is one that the edition has, by document 01's three lists and request [1].
+// Place k is one that the edition has, by document 01's three lists and requests [1] and [2].
 pub fn has(edition: u8, k: u8) -> bool {
     let drawn = edition == LockState::DRAWN;
     let guarded = edition == LockState::GUARDED;
@@ -29,6 +29,7 @@ pub fn has(edition: u8, k: u8) -> bool {
         6 | 8 | 10..=13 | 19..=21 => drawn | guarded,
         1 | 18 | 22 => guarded,
         23..=26 => old,
+        27 | 28 => drawn,
         _ => false,
     }
 }
@@ -115,7 +116,7 @@ fn a_row(edition: u8, n: u8, d: Dice) -> Drawn {
     let at = flag.roll(places(edition));
     let place = place_of(edition, at.got);
     let pred = wanted(at, n, (4 <= place) & (place <= 6));
-    let succ = wanted(pred, n, (17 <= place) & (place <= 22));
+    let succ = wanted(pred, n, ((17 <= place) & (place <= 22)) | (place == 27));
     let nx = wanted(succ, n, place == 21);
     Drawn {
         row: Row {

@@ -1,14 +1,14 @@
--- `random::state::place_of` is safe and ends. The loop's invariant: `k` is at most 27.
+-- `random::state::place_of` is safe and ends. The loop's invariant: `k` is at most 29.
 use borrow.Author.Needs.{needs}
 use Prim.Native.Nat.{_≤_, _-_}
 use Rattle.random.proofs.state.place_of.Statement.{statement}
 use Rattle.random.proofs.state.place_of.Tie as tie
 
 abbrev Inv-loop : tie.InvT-loop
-Inv-loop edition number left₀ k₀ left k = k ≤ 27
+Inv-loop edition number left₀ k₀ left k = k ≤ 29
 
 abbrev μ-loop : tie.MeasureT-loop
-μ-loop edition number left₀ k₀ left k = 27 - k
+μ-loop edition number left₀ k₀ left k = 29 - k
 
 loop-holds : tie.Need-loop-holds Inv-loop μ-loop
 loop-holds c = search needs

@@ -1,4 +1,4 @@
--- `random::state::places` is safe and ends. The loop's invariant: `k` is at most 27, and no more places are counted than looked at.
+-- `random::state::places` is safe and ends. The loop's invariant: `k` is at most 29, and no more places are counted than looked at.
 use borrow.Author.Needs.{needs}
 use Prim.Native.Nat.{_≤_, _-_}
 use mathlib.Core.Logic.{⊎-elim}
@@ -6,10 +6,10 @@ use Rattle.random.proofs.state.places.Statement.{statement}
 use Rattle.random.proofs.state.places.Tie as tie
 
 abbrev Inv-loop : tie.InvT-loop
-Inv-loop edition count₀ k₀ count k = (k ≤ 27) × (count ≤ k)
+Inv-loop edition count₀ k₀ count k = (k ≤ 29) × (count ≤ k)
 
 abbrev μ-loop : tie.MeasureT-loop
-μ-loop edition count₀ k₀ count k = 27 - k
+μ-loop edition count₀ k₀ count k = 29 - k
 
 loop-holds : tie.Need-loop-holds Inv-loop μ-loop
 loop-holds c = search needs
