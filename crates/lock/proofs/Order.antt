@@ -7,7 +7,8 @@
 --     Quiet                          the steps that move no ghost
 --     Join, Link, Leave              places 3; 5 and 6; 14 to 16
 --     Hand, Fence, Take              places 17 and 19; 18; 20 to 22
---     Invariant                      fresh, after every call; who enters first, and who releases a guard
+--     Peeked                         at 21 and 22: succ's next is still what was read
+--     Invariant                      fresh, after every call; who enters first, who releases a guard, what a second read finds
 pub mod Tickets
 pub mod Roles
 pub mod Statement
@@ -21,4 +22,5 @@ pub mod Leave
 pub mod Hand
 pub mod Fence
 pub mod Take
+pub mod Peeked
 pub mod Invariant

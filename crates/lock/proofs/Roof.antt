@@ -5,6 +5,7 @@
 --     Callers              calls of the library are a run
 --     Claimed, Witness     the claims, and that they are sharp
 --     Old                  the old boards' lock: no joins, and what is not claimed of it
+--     Reread               the second read of next, and place 28
 pub mod Opened
 pub mod Computed
 pub mod Single
@@ -13,3 +14,4 @@ pub mod Callers
 pub mod Claimed
 pub mod Witness
 pub mod Old
+pub mod Reread

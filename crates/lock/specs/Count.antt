@@ -1,18 +1,22 @@
 -- What demand 3 counts, read off the steps of a schedule: "Joins and entries are counted from the steps of the
 -- schedule, not from a stored tally." Each count goes through the calls one by one, in the run that begins at a state
--- s. In order: how many joins, entries and interrupts; the number of a latest join; the calls between a join and its
+-- s. In order: how many steps, joins, entries and interrupts; the number of a latest join; the calls between a join and its
 -- entry. The claims stand in Claims.
 use Prim.Native.Nat.{ℕ, suc}
 use mathlib.Core.Bool.{Bool, cond}
 use mathlib.Core.List.{List, [], _∷_}
 use lib.Dec.{eqb}
 use Rattle.lock.specs.declared.LockState.{LockState}
-use Rattle.lock.specs.Run.{Call, after, joins, enters, interrupted}
+use Rattle.lock.specs.Run.{Call, after, stepsOf, joins, enters, interrupted}
 
 -- how many of the calls pass a test of the state before the call and of the call
 unfoldable pub countIn : (LockState → Call → Bool) → LockState → List Call → ℕ
 countIn test s [] = 0
 countIn test s (c ∷ cs) = let further = countIn test (after s c) cs in cond (test s c) (suc further) further
+
+-- how often processor p steps
+unfoldable pub stepsIn : LockState → List Call → ℕ → ℕ
+stepsIn s cs p = countIn (λ t c. stepsOf t c p) s cs
 
 -- how often processor p joins
 unfoldable pub joinsIn : LockState → List Call → ℕ → ℕ

@@ -1,6 +1,6 @@
 -- What must be believed of the lock, in document 01's order: the state, its soundness, the step table, the events; then runs,
--- what is counted in them and the claims about them; then the P cases, the old boards' lock, soundness kept, and that only one
--- answer fits.
+-- what is counted in them and the claims about them; then the P cases, the old boards' lock, the second read, soundness kept, and
+-- that only one answer fits.
 pub mod State
 pub mod Sound
 pub mod Acts
@@ -13,4 +13,5 @@ pub mod Claims
 pub mod Sharp
 pub mod Cases
 pub mod Old
+pub mod Reread
 pub mod Unique

@@ -292,7 +292,11 @@ impl LockState {
         if parked {
             let took = self.put_locked(own.succ, LockState::RELEASED);
             let drawn = self.edition == LockState::DRAWN;
-            if drawn { took.to(p, 27) } else { took.to(p, 22) }
+            if drawn {
+                took.to(p, 27)
+            } else {
+                took.to(p, 22)
+            }
         } else {
             self.put_nx(p, LockState::NONE).to_lift(p)
         }

@@ -1,7 +1,8 @@
-// Demand 3, shown as proved under its clauses' names, and what is shown of the old boards' lock: each function here is empty, and
-// its contract is the claim. What the claims say stands in specs/Claims, specs/Sharp and specs/Old.
+// Demand 3, shown as proved under its clauses' names, and what is shown of the old boards' lock and of the second read: each function
+// here is empty, and its contract is the claim. What the claims say stands in specs/Claims, Sharp, Old and Reread.
 ghost use Rattle.lock.specs.Sharp.{ClaimsAreSharp};
 ghost use Rattle.lock.specs.Old.{OldHasNoJoins, OldOvertakes, OldHasNoBound};
+ghost use Rattle.lock.specs.Reread.{SecondReadFindsTheSame, SecondReadIsSharp, LostChangesNothing, LostStaysLost, NobodyEntersOnceLost, LockIsLost};
 ghost use Rattle.lock.specs.Claims.{NeverTwoInside, NeverTwoInsideAnyEdition, NobodyLaterEnters, OthersEnterOnce, WaitsAtMost, NobodyOvertakes, InsideByEntry, GuardHasItsReleaser, CallsAreARun};
 
 // "two processors are never inside together"
@@ -67,4 +68,34 @@ pub fn old_overtakes()
 // One that has tried and failed may wait through any number of entries.
 pub fn old_has_no_bound()
     ensures { λ _. ⌜ OldHasNoBound ⌝ }
+{}
+
+// "The guarded edition keeps its single read; prove that there a second read would find the same."
+pub fn second_read_finds_the_same()
+    ensures { λ _. ⌜ SecondReadFindsTheSame ⌝ }
+{}
+
+// The premise can be met; in the drawn edition a second read may find another.
+pub fn second_read_is_sharp()
+    ensures { λ _. ⌜ SecondReadIsSharp ⌝ }
+{}
+
+// "place 28, lost, where every step is accepted and changes nothing"
+pub fn lost_changes_nothing()
+    ensures { λ _. ⌜ LostChangesNothing ⌝ }
+{}
+
+// a processor at 28 is at 28 after every further schedule
+pub fn lost_stays_lost()
+    ensures { λ _. ⌜ LostStaysLost ⌝ }
+{}
+
+// and from then on nobody enters
+pub fn nobody_enters_once_lost()
+    ensures { λ _. ⌜ NobodyEntersOnceLost ⌝ }
+{}
+
+// "Show a schedule that reaches 28"
+pub fn lock_is_lost()
+    ensures { λ _. ⌜ LockIsLost ⌝ }
 {}

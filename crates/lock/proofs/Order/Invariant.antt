@@ -4,6 +4,7 @@
 --     inv-after        every call keeps it, refused ones too
 --     inv-entry        who enters has the earliest latest join of all in the queue
 --     inv-guard        a set guard has its releaser
+--     inv-at-take, inv-at-lift, inv-taken      who has peeked still has in nx what it read
 use Prim.Native.Nat.{ℕ, zero, suc, _<_, _≤_}
 use mathlib.Core.Path.{_≡_, refl, sym, ap, subst, _∙_}
 use mathlib.Core.Bool.{Bool, true, false, cond, _||_, or-true}
@@ -14,7 +15,7 @@ use lib.ListN.{length}
 use borrow.Author.Tests.{eqb-true}
 use Rattle.lock.specs.declared.LockState.{LockState}
 use Rattle.choice.proofs.Tests.{clash, and-right}
-use Rattle.lock.specs.State.{processors, none, isNone, plain, guarded, isPlain, isGuarded, freshState, row}
+use Rattle.lock.specs.State.{processors, none, isNone, plain, guarded, isPlain, isGuarded, RP, freshState, withPlace, row}
 use Rattle.lock.specs.Sound.{places, hasPlace, sound}
 use Rattle.lock.specs.Table.{Place, placeAt, act, stepped, swap, inside}
 use Rattle.lock.specs.Event.{raised}
@@ -37,6 +38,7 @@ use Rattle.lock.proofs.Order.Leave.{look-holds, await-holds, close-hold
 use Rattle.lock.proofs.Order.Hand.{hand-holds, park-holds}
 use Rattle.lock.proofs.Order.Fence.{fence-holds}
 use Rattle.lock.proofs.Order.Take.{peek-holds, take-holds, lift-holds}
+use Rattle.lock.proofs.Order.Peeked.{at-take, at-lift, takes-another, taken-row}
 use Rattle.lock.specs.Acts as Acts
 
 pub Inv : LockState → Tickets → Type 0
@@ -216,3 +218,27 @@ inv-guard s g q v h = by (v .ghost .fencer q) refl
         let both : ((factsAt ((row s p) .place)) .fences ≡ true) × ((row s p) .succ ≡ q) =
         on p ((factsAt ((row s p) .place)) .fences) refl (v .fits p .fencing) z in
         (p, both .0, both .1)
+
+-- who has peeked: a second read of succ's next would find nx
+pub inv-at-take :
+    (s : LockState) (g : Tickets) (p : ℕ) → Inv s g → (row s p) .place ≡ 21
+    → (row s ((row s p) .succ)) .next ≡ (row s p) .nx
+unfolding Inv
+inv-at-take s g p v e = at-take s g p v e
+
+pub inv-at-lift :
+    (s : LockState) (g : Tickets) (p : ℕ) → Inv s g → (row s p) .place ≡ 22 → (row s p) .nx ≢ none
+    → (row s p) .nx ≢ (row s p) .succ
+    → (row s ((row s p) .succ)) .next ≡ (row s p) .nx
+unfolding Inv
+inv-at-lift s g p v e some other = at-lift s g p v e some other
+
+-- a successful take leads to a 22 of that kind
+pub inv-taken :
+    (s : LockState) (g : Tickets) (p : ℕ) → Inv s g → p < length (s .rows) → (row s p) .place ≡ 21
+    → eqb ((row s ((row s p) .succ)) .locked) RP ≡ true
+    → (row (stepped s p) p ≡ withPlace (row s p) 22) × ((row s p) .nx ≢ none) × ((row s p) .nx ≢ (row s p) .succ)
+unfolding Inv stepped
+inv-taken s g p v room e h =
+    let other = takes-another s g p v e h in
+    (ap (λ m. row (act (placeAt m) s p) p) e ∙ taken-row s g p v room e h, other .0, other .1)

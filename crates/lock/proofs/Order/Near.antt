@@ -24,7 +24,7 @@ use Rattle.lock.proofs.Ground.Facts.{Role, out, raw, wait, tok, rel, la
 use Rattle.lock.proofs.Order.Tickets.{Tickets}
 use Rattle.lock.proofs.Ground.Writes.{row-there, some-row}
 use Rattle.lock.proofs.Order.Roles.{role, isQueued, parked-tok}
-use Rattle.lock.proofs.Order.Statement.{Ghost, Queued, Raw, Wait, Tok, Rel, Duty, Fit, Holds}
+use Rattle.lock.proofs.Order.Statement.{Ghost, Queued, Raw, Wait, Tok, Rel, Duty, Fencing, Fit, Holds}
 use Rattle.lock.proofs.Order.Carry.{Asks, owner}
 
 pub same-join :
@@ -139,6 +139,13 @@ module _ (s : LockState) (g : Tickets) (v : Holds s g) where
             d .away (rw e (w .1 .low)) (rw e (w .1 .high)) (rw e (w .1 .mine));
         near = queued-there y (w .2);
       }
+
+  -- the row that p fences keeps the next that p has read
+  pub peeked-next :
+      (p y z : ℕ) → Fencing true (v .ghost .fencer) p y → v .ghost .peeked y ≡ z → z ≢ none → (row s y) .next ≡ z
+  peeked-next p y z on e some =
+      let fenced : v .ghost .fencer y ≢ 0 = λ n. let k : suc p ≡ 0 = sym (on .0) ∙ n in omega arith in
+      ((v .fits y) .fenced fenced) .kept (λ n. some (sym e ∙ n)) ∙ e
 
   pub parked-tok-at :
       (y : ℕ) → eqb ((row s y) .locked) RP ≡ true

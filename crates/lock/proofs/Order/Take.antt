@@ -20,7 +20,7 @@ use Rattle.lock.proofs.Ground.Writes.{own-start, Both, both-start, row-
 use Rattle.lock.proofs.Order.Roles.{parked-out, parked-settled, peeked-fences}
 use Rattle.lock.proofs.Order.Statement.{Ghost, upd, upd-same, upd-other, upd-back, Linked, Rel, Lag, given-map, Fencing, Fenced, Fit, FitRow, Holds}
 use Rattle.lock.proofs.Order.Carry.{passed, refenced, refence-books, pass-fit, fenced-same, manned-same, fencing-map, refence, refence-fit, books-pop}
-use Rattle.lock.proofs.Order.Near.{duty-as, served-first, pop-asks, parked-tok-at}
+use Rattle.lock.proofs.Order.Near.{duty-as, served-first, pop-asks, peeked-next, parked-tok-at}
 use Rattle.lock.proofs.Order.Build.{own-holds, both-holds, free-fit, relock}
 use Rattle.lock.proofs.Order.Quiet.{ordered-drawn, mine, lag-on}
 use Rattle.lock.specs.Acts as Acts
@@ -116,8 +116,7 @@ module _ (s : LockState) (g : Tickets) (p : ℕ) (v : Holds s g) (room : p < len
       let fy = v .fits y in
       let m = Y .place in
       let st = factsAt m in
-      let fenced : G .fencer y ≢ 0 = λ n. let z : suc p ≡ 0 = sym (on .0) ∙ n in omega arith in
-      let next : Y .next ≡ R .nx = (fy .fenced fenced) .kept (λ n. saw .1 (sym (saw .0) ∙ n)) ∙ saw .0 in
+      let next : Y .next ≡ R .nx = peeked-next s g v p y (R .nx) on (saw .0) (saw .1) in
       let c : Linked g G (suc (g .latest y)) (Y .next) = w .0 .queued .chain (λ n. saw .1 (sym next ∙ n)) in
       let next-is : suc (g .latest y) ≡ suc (G .gone) = ap suc front in
       let done : G .linked (suc (G .gone)) ≡ true = sym (ap (G .linked) next-is) ∙ c .done in

@@ -49,10 +49,12 @@ module _ (Excl : LockState → Type 0)
   excl-run s [] h = h
   excl-run s (c ∷ cs) h = excl-run (after s c) cs (excl-after s c h)
 
+  pub excl-reached : (e n : ℕ) (calls : List Call) → AnyEdition e n → Excl (reached e n calls)
+  excl-reached e n calls h =
+      excl-run (freshState e n) calls (excl-fresh e n (edition-within e (h .edition)) (h .least) (h .most))
+
   pub never-two-inside-any-edition : NeverTwoInsideAnyEdition
-  never-two-inside-any-edition e n calls p q h one two =
-      excl-inside (reached e n calls) p q
-      (excl-run (freshState e n) calls (excl-fresh e n (edition-within e (h .edition)) (h .least) (h .most))) one two
+  never-two-inside-any-edition e n calls p q h one two = excl-inside (reached e n calls) p q (excl-reached e n calls h) one two
 
   pub never-two-inside : NeverTwoInside
   never-two-inside e n calls p q h one two = never-two-inside-any-edition e n calls p q (ordered-any e n h) one two

@@ -48,7 +48,7 @@ pub run-last : (s : LockState) (cs : List Call) (c : Call) → run s (cs ++ c �
 unfolding run
 run-last s cs c = run-append s cs (c ∷ [])
 
-run-middle :
+pub run-middle :
     (s : LockState) (cs : List Call) (c : Call) (ds : List Call) → run s (cs ++ c ∷ ds) ≡ run (after (run s cs) c) ds
 unfolding run
 run-middle s cs c ds = run-append s cs (c ∷ ds)

@@ -80,12 +80,12 @@ module _ (s : LockState) (p : ℕ) (there : p < length (s .rows)) (ok : Place �
 
   to-hand : {k : Place} → At k → Led k → Leads k 17 → Goes s p ok (Acts.toHand s p)
   unfolding Acts.toHand
-  to-hand here h i = ends here h _ i (kept-succ _ _ kept-self)
+  to-hand here h i = ends here h _ i (kept-succ _ kept-self)
 
   to-onward : {k : Place} → At k → Led k → (x : LockState) → Kept s p x → Leads k 0 → Leads k 17 → Goes s p ok (Acts.onward x p)
   unfolding Acts.onward
   to-onward here h x kept i j =
-      by-either (Goes s p ok) (isNone ((row x p) .nx)) (ends here h _ i kept) (ends here h _ j (kept-succ _ _ kept))
+      by-either (Goes s p ok) (isNone ((row x p) .nx)) (ends here h _ i kept) (ends here h _ j (kept-succ _ kept))
 
   to-lift :
       {k : Place} → At k → Led k → (x : LockState) → Kept s p x → Leads k 22 → Leads k 0 → Leads k 17
@@ -203,13 +203,13 @@ module _ (s : LockState) (p : ℕ) (there : p < length (s .rows)) (ok : Place �
       ends here h _ refl
       (kept-locked _ _
       (λ z. eqb-false Preempted Released refl (sym (eqb-true ((row s y) .locked) Preempted e) ∙ z)) kept-self))
-      (λ e. to-lift here h _ (kept-nx _ _ kept-self) refl refl refl)
+      (λ e. to-lift here h _ (kept-nx _ kept-self) refl refl refl)
 
   goes-peek : At peek → Led peek → Goes s p ok (Acts.peek s p)
   unfolding Acts.peek
   goes-peek here h =
       by-either (Goes s p ok) (isNone ((row s ((row s p) .succ)) .next))
-      (to-lift here h _ (kept-nx _ _ kept-self) refl refl refl) (ends here h _ refl (kept-nx _ _ kept-self))
+      (to-lift here h _ (kept-nx _ kept-self) refl refl refl) (ends here h _ refl (kept-nx _ kept-self))
 
   goes-take : At take → Led take → Goes s p ok (Acts.take s p)
   unfolding Acts.take
@@ -217,7 +217,7 @@ module _ (s : LockState) (p : ℕ) (there : p < length (s .rows)) (ok : Place �
       by-either (Goes s p ok) (eqb ((row s ((row s p) .succ)) .locked) RP)
       (by-either (λ v. Goes s p ok (to (putLocked s ((row s p) .succ) Released) p v)) (isDrawn (s .edition))
       (ends here h _ refl (kept-release _ kept-self)) (ends here h _ refl (kept-release _ kept-self)))
-      (to-lift here h _ (kept-nx _ _ kept-self) refl refl refl)
+      (to-lift here h _ (kept-nx _ kept-self) refl refl refl)
 
   goes-lift : At lift → Led lift → Goes s p ok (Acts.lift s p)
   unfolding Acts.lift
@@ -244,8 +244,8 @@ module _ (s : LockState) (p : ℕ) (there : p < length (s .rows)) (ok : Place �
   goes-reread : At reread → Led reread → Goes s p ok (Acts.reread s p)
   unfolding Acts.reread
   goes-reread here h =
-      by-either (Goes s p ok) (isNone ((row s ((row s p) .succ)) .next)) (ends here h _ refl (kept-nx _ _ kept-self))
-      (ends here h _ refl (kept-succ _ _ (kept-nx _ _ kept-self)))
+      by-either (Goes s p ok) (isNone ((row s ((row s p) .succ)) .next)) (ends here h _ refl (kept-nx _ kept-self))
+      (ends here h _ refl (kept-succ _ (kept-nx _ kept-self)))
 
   goes-lost : At lost → Led lost → Goes s p ok (Acts.lost s p)
   unfolding Acts.lost

@@ -1,10 +1,11 @@
 -- A step of a processor, seen through a test that passes wherever the act of its place leads; and what follows for
 -- any call without looking at the step table.
---     Same, Stepped, by-step   a call leaves every place and locked, or is the step of one processor
+--     Same, Stepped, by-step   a call leaves every place, locked and private cell, or is the step of one processor
 --     stepping, anywhere       the step ends where the test passes; the other rows are as Goes says
 --     whoever                  what holds of the one that steps and of every other holds of each
 --     join-test, entry-test, interrupt-test      Run's tests on the step, as tests of the places before and after
 --     rows-after, size-after, edition-after      the number of rows, N and the edition stay
+--     unmoved                  who does not step keeps its place and its private cells
 --     Queue, queue-after       a state of a lock with a queue, which its rows and its edition make it; it stays one
 --     not-apart                who steps in such a state is not at a place of the old boards' lock
 --     joins-own, joins-below, enters-below     who joins is the call's own processor; who joins or enters is below N
@@ -29,19 +30,20 @@ use Rattle.lock.proofs.Ground.Calls.{Accepted, Kind, idle, raise, step,
 use Rattle.lock.proofs.Ground.Facts.{entry, number, phaseAt, isApart, number-test, at-facts}
 use Rattle.lock.proofs.Ground.Editions.{has-queue}
 use Rattle.lock.proofs.Keeping.Parts.{row-room, row-has}
-use Rattle.lock.proofs.Waiting.Kept.{Goes}
+use Rattle.lock.proofs.Waiting.Kept.{Cells, cells-self, Goes}
 use Rattle.lock.proofs.Waiting.Leads.{allOf, goes}
 
--- x has the places, the locked cells, as many rows, the N and the edition of s
+-- x has the places, the locked and the private cells, as many rows, the N and the edition of s
 pub record Same (s x : LockState) : Type 0 where
   pub places : (q : ℕ) → (row x q) .place ≡ (row s q) .place
   pub locked : (q : ℕ) → (row x q) .locked ≡ (row s q) .locked
+  pub private : (q : ℕ) → Cells (row s q) (row x q)
   pub rows : length (x .rows) ≡ length (s .rows)
   pub size : x .n ≡ s .n
   pub edition : x .edition ≡ s .edition
 
 same-self : (s : LockState) → Same s s
-same-self s = record { places = λ q. refl; locked = λ q. refl; rows = refl; size = refl; edition = refl }
+same-self s = record { places = λ q. refl; locked = λ q. refl; private = λ q. cells-self; rows = refl; size = refl; edition = refl }
 
 same-raised : (s : LockState) (p : ℕ) → Same s (raised s p)
 unfolding raised putFlag putRow
@@ -49,6 +51,8 @@ same-raised s p =
     record {
       places = put-all (λ q w. w .place ≡ (row s q) .place) s p (withFlag (row s p) true) (λ q. refl) refl;
       locked = put-all (λ q w. w .locked ≡ (row s q) .locked) s p (withFlag (row s p) true) (λ q. refl) refl;
+      private = put-all (λ q w. Cells (row s q) w) s p (withFlag (row s p) true) (λ q. cells-self)
+          (record { succ = refl; nx = refl });
       rows = rows-put s p (withFlag (row s p) true);
       size = refl;
       edition = refl;
@@ -139,6 +143,18 @@ size-after s c whole = by-step s c (λ still same. same .size) (λ k. (anywhere 
 
 pub edition-after : (s : LockState) (c : Call) → length (s .rows) ≡ processors → (after s c) .edition ≡ s .edition
 edition-after s c whole = by-step s c (λ still same. same .edition) (λ k. (anywhere s c whole k) .edition)
+
+-- ---- who does not step
+
+pub unmoved :
+    (s : LockState) (c : Call) (q : ℕ) → length (s .rows) ≡ processors → stepsOf s c q ≡ false
+    → ((row (after s c) q) .place ≡ (row s q) .place) × Cells (row s q) (row (after s c) q)
+unmoved s c q whole quiet =
+    by-step s c (λ still same. (same .places q, same .private q))
+    (λ k.
+    let other : q ≢ c .processor = λ e. eqb-false (c .processor) q (sym (k .whose q) ∙ quiet) (sym e) in
+    let goes = anywhere s c whole k in
+    (goes .others q other, goes .private q other))
 
 -- ---- a lock with a queue
 
