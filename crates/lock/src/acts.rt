@@ -366,6 +366,6 @@ impl LockState {
     pub(crate) fn lost(self, p: u8) -> LockState
         ensures { λ s. ⌜ s ≡ Acts.lost self p ⌝ }
     {
-        self
+        self // for good
     }
 }

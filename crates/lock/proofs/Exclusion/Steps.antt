@@ -13,6 +13,7 @@ use Rattle.choice.proofs.Tests.{clash, left-of, by-test, by-either}
 use Rattle.lock.specs.State.{none, isNone, isPlain, isGuarded, isOld, Released, Locked, Preempted, RP, withNext, withGuard, row, putRow, putTail, putNext, putLocked, putGuard, putFlag, to, putPred}
 use Rattle.lock.specs.Table.{Place, placeAt, rest, gate, clear, swap, arm, link, spin, settle, inside, poll, service, back, regain, look, close, await, fence, oldTry, oldPoll, oldService, oldFree, reread, lost}
 use Rattle.lock.proofs.Ground.Rows.{rows-put}
+use Rattle.lock.proofs.Ground.Places.{lost-same}
 use Rattle.lock.proofs.Ground.Writes.{Own, own-start, own-tail, own-all, put-all, some-row, own-flag, own-locked, own-next, own-pred, own-succ, own-nx, own-to}
 use Rattle.lock.proofs.Ground.Facts.{Facts, raw, wait, tok, facts, factsAt, isBearer, bears, isLeft, back-role}
 use Rattle.lock.proofs.Exclusion.Token.{Sole, SoleRow, bearsRow, Excl, quiet, blind}
@@ -235,8 +236,7 @@ module _ (s : LockState) (p : ℕ) (x : Excl s) (room : p < length (s .rows)) wh
       (λ h t f. let f = at e f in still f (f .settled) (λ u. u)))
 
   pub lost-excl : placeAt (R .place) ≡ lost → Excl (Acts.lost s p)
-  unfolding Acts.lost
-  lost-excl e = x
+  lost-excl e = subst Excl (lost-same s p) x
 
 -- a write of a next or of a guard, anybody's, is nothing to the token; it leaves p's place, and p its room
 pub record Aside (s t : LockState) (p : ℕ) : Type 0 where

@@ -4,6 +4,7 @@
 --     at-number          the same of the place at m
 --     at-place           a step at the place k does the act of k's name
 --     at-nowhere         a step at a number that is no place does nothing
+--     lost-same          nor does the act of place 28
 use Prim.Native.Nat.{ℕ, zero, suc, _≤_, _<_}
 use native.Mathlib.Nat.{not-suc-le-zero, le-of-suc-le-suc, eq-or-lt-of-le}
 use mathlib.Core.Path.{_≡_, refl, sym, ap, subst, _∙_}
@@ -18,6 +19,7 @@ use Rattle.lock.specs.Sound.{places}
 use Rattle.lock.specs.Table.{Place, names, placeAt, act, stepped, nowhere}
 use Rattle.lock.specs.declared.Row.{Row}
 use Rattle.lock.specs.declared.LockState.{LockState}
+use Rattle.lock.specs.Acts as Acts
 
 -- a number that is no place is nowhere's
 pub place-far : (m : ℕ) → places ≤ m → placeAt m ≡ nowhere
@@ -58,3 +60,8 @@ at-place s p k own P t e q n d =
 pub at-nowhere : (s : LockState) (p : ℕ) (own : Row) → own ≡ row s p → Avoids (own .place) places → s ≡ stepped s p
 at-nowhere s p own e a =
     at-place s p (own .place) own nowhere s e refl (place-far (own .place) (avoids-far (own .place) places a)) refl
+
+-- "every step ... changes nothing": all that is asked of place 28 follows from this
+pub lost-same : (s : LockState) (p : ℕ) → s ≡ Acts.lost s p
+unfolding Acts.lost
+lost-same s p = refl

@@ -4,7 +4,7 @@
 -- p itself: the puts ask only that it is below N. The four ways on that several acts share come first; `acts` has the acts in
 -- the order of their places.
 use Prim.Native.Nat.{ℕ}
-use mathlib.Core.Path.{_≡_, refl, ap}
+use mathlib.Core.Path.{_≡_, refl, ap, subst}
 use mathlib.Core.Bool.{true, false, not, _&&_, or-true}
 use lib.Dec.{eqb}
 use borrow.Author.Tests.{lt-ltb}
@@ -17,7 +17,7 @@ use Rattle.lock.specs.Kept.{Whole}
 use Rattle.lock.specs.Table.{Place, placeAt, act, rest, gate, clear, swap, arm, link, claim, spin, settle, inside, poll, service, back, regain, look, close, await, hand, fence, park, peek, take, lift, oldTry, oldPoll, oldService, oldFree, reread, lost}
 use Rattle.lock.proofs.Keeping.Parts.{Known, Ready, standing}
 use Rattle.lock.proofs.Keeping.Puts.{put-next, put-locked, put-guard, put-flag, put-pred, put-succ, put-nx, put-tail, also, knowing, forgetting, pred-below, succ-below, suits, own-cells, lands, flag-kept}
-use Rattle.lock.proofs.Ground.Places.{Each, begin, _▹_}
+use Rattle.lock.proofs.Ground.Places.{Each, begin, _▹_, lost-same}
 use Rattle.lock.proofs.Ground.Facts.{number}
 use Rattle.lock.specs.Acts as Acts
 
@@ -227,8 +227,7 @@ module _ {s : LockState} {p : ℕ} (w : Whole s) where
       (λ h. lands _ (put-succ (put-nx x ((row s q) .next) true fits (ap not h)) ((row s q) .next) true fits (ap not h)) refl)
 
   lost-kept : Stands s p lost → Whole (Acts.lost s p)
-  unfolding Acts.lost
-  lost-kept x = w
+  lost-kept x = subst Whole (lost-same s p) w
 
 -- the act of each place
 pub acts : {s : LockState} {p : ℕ} → Whole s → Each (λ m. Ready s p (standing m) → Whole (act (placeAt m) s p)) places

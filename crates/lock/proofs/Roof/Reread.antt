@@ -22,8 +22,9 @@ use Rattle.lock.specs.Run.{Call, after, run, stepsOf, enters, isInside}
 use Rattle.lock.specs.Count.{countIn, stepsIn, allEntriesIn}
 use Rattle.lock.specs.Cases.{step, steps, raise}
 use Rattle.lock.specs.Claims.{reached}
-use Rattle.lock.specs.Reread.{FindsTheSame, takes, Taken, SameAtTake, SameAtLift, SameOnceTaken, SecondReadFindsTheSame, ReadsAnother, TakenMet, SecondReadIsSharp, lostBefore, lostSince, lostUnread, isLost, LostChangesNothing, LostStaysLost, NobodyEntersOnceLost, LockIsLost}
-use Rattle.lock.proofs.Order.Tickets.{noTickets}
+use Rattle.lock.specs.Reread.{FindsTheSame, takes, Taken, SameAtTake, SameAtLift, SameOnceTaken, SecondRead, SecondReadFindsTheSame, ReadsAnother, TakenMet, SecondReadIsSharp, lostBefore, lostSince, lostUnread, isLost, LostChangesNothing, LostStaysLost, NobodyEntersOnceLost, LockIsLost}
+use Rattle.lock.proofs.Ground.Places.{lost-same}
+use Rattle.lock.proofs.Order.Tickets.{noTickets, isOrdered}
 use Rattle.lock.proofs.Order.Invariant.{Inv, inv-fresh, inv-after, inv-entry, inv-at-take, inv-at-lift, inv-taken}
 use Rattle.lock.proofs.Exclusion.{Excl, excl-fresh, excl-after, excl-inside, excl-lost}
 use Rattle.lock.proofs.Waiting.Kept.{Cells, cells-self, cells-on}
@@ -32,9 +33,8 @@ use Rattle.lock.proofs.Waiting.Stepping.{by-step, there, whoever, anywh
 use Rattle.lock.proofs.Waiting.Demand as Demand
 use Rattle.lock.proofs.Roof.Inside as Inside
 use Rattle.lock.proofs.Roof.Opened.{computed}
-use Rattle.lock.specs.Acts as Acts
 
--- ---- a second read in the guarded edition
+-- ---- a second read in an ordered edition
 
 -- who does not step in a run keeps its place and its private cells
 unmoved-run :
@@ -48,26 +48,26 @@ unmoved-run s (c ∷ cs) p whole h =
     let later = unmoved-run (after s c) cs p (rows-after s c whole) (none .1) in
     (later .0 ∙ now .0, cells-on (now .1) (later .1))
 
-module _ (n : ℕ) (some : 1 ≤ n) (many : n ≤ processors) where
-  inv : (calls : List Call) → Inv (reached guarded n calls) (ticketsOf (freshState guarded n) noTickets calls)
+module _ (e n : ℕ) (ordered : isOrdered e ≡ true) (some : 1 ≤ n) (many : n ≤ processors) where
+  inv : (calls : List Call) → Inv (reached e n calls) (ticketsOf (freshState e n) noTickets calls)
   inv calls =
-      Demand.inv-run Inv inv-fresh inv-after inv-entry (freshState guarded n) noTickets calls (inv-fresh guarded n refl some many)
+      Demand.inv-run Inv inv-fresh inv-after inv-entry (freshState e n) noTickets calls (inv-fresh e n ordered some many)
 
-  at-take : SameAtTake guarded n
-  at-take calls p e = inv-at-take (reached guarded n calls) _ p (inv calls) e
+  at-take : SameAtTake e n
+  at-take calls p at = inv-at-take (reached e n calls) _ p (inv calls) at
 
-  at-lift : SameAtLift guarded n
-  at-lift calls p e = inv-at-lift (reached guarded n calls) _ p (inv calls) e
+  at-lift : SameAtLift e n
+  at-lift calls p at = inv-at-lift (reached e n calls) _ p (inv calls) at
 
   -- a successful take leads to 22, with an nx that is neither none nor succ
   take-leads :
-      (before : List Call) (take : Call) (p : ℕ) → takes (reached guarded n before) take p ≡ true
-      → let r = row (reached guarded n before) p in
-      (row (after (reached guarded n before) take) p ≡ withPlace r 22) × (r .nx ≢ none) × (r .nx ≢ r .succ)
+      (before : List Call) (take : Call) (p : ℕ) → takes (reached e n before) take p ≡ true
+      → let r = row (reached e n before) p in
+      (row (after (reached e n before) take) p ≡ withPlace r 22) × (r .nx ≢ none) × (r .nx ≢ r .succ)
   unfolding takes
   take-leads before take p h =
-      let s = reached guarded n before in
-      let whole = Demand.rows-reached guarded n before in
+      let s = reached e n before in
+      let whole = Demand.rows-reached e n before in
       let r = row s p in
       let parked = eqb ((row s (r .succ)) .locked) RP in
       let at : stepsOf s take p && eqb (r .place) 21 ≡ true = and-left (stepsOf s take p && eqb (r .place) 21) parked h in
@@ -80,16 +80,16 @@ module _ (n : ℕ) (some : 1 ≤ n) (many : n ≤ processors) where
       (and-right (stepsOf s take p && eqb (r .place) 21) parked h) in
       (ap (λ t. row t p) (k .act ∙ ap (stepped s) own) ∙ w .0, w .1, w .2))
 
-  once-taken : SameOnceTaken guarded n
+  once-taken : SameOnceTaken e n
   once-taken before take since p t =
-      let s = reached guarded n before in
+      let s = reached e n before in
       let took = after s take in
       let led = take-leads before take p (t .took) in
-      let whole = rows-after s take (Demand.rows-reached guarded n before) in
+      let whole = rows-after s take (Demand.rows-reached e n before) in
       let still = unmoved-run took since p whole
-      (subst (λ x. stepsIn x since p ≡ 0) (Demand.run-last (freshState guarded n) before take) (t .stands)) in
-      let end : reached guarded n (before ++ take ∷ since) ≡ run took since =
-      Demand.run-middle (freshState guarded n) before take since in
+      (subst (λ x. stepsIn x since p ≡ 0) (Demand.run-last (freshState e n) before take) (t .stands)) in
+      let end : reached e n (before ++ take ∷ since) ≡ run took since =
+      Demand.run-middle (freshState e n) before take since in
       let place : (row (run took since) p) .place ≡ 22 = still .0 ∙ ap (λ (r : Row). r .place) (led .0) in
       let succ : (row (run took since) p) .succ ≡ (row s p) .succ = still .1 .succ ∙ ap (λ (r : Row). r .succ) (led .0) in
       let nx : (row (run took since) p) .nx ≡ (row s p) .nx = still .1 .nx ∙ ap (λ (r : Row). r .nx) (led .0) in
@@ -97,9 +97,11 @@ module _ (n : ℕ) (some : 1 ≤ n) (many : n ≤ processors) where
       (λ z. led .1 (sym nx ∙ ap (λ x. (row x p) .nx) (sym end) ∙ z))
       (λ z. led .2 (sym nx ∙ ap (λ x. (row x p) .nx) (sym end) ∙ z ∙ ap (λ x. (row x p) .succ) end ∙ succ))
 
+  second-read : SecondRead e n
+  second-read = record { at-take = at-take; once-taken = once-taken; at-lift = at-lift }
+
 pub second-read-finds-the-same : SecondReadFindsTheSame
-second-read-finds-the-same n some many =
-    record { at-take = at-take n some many; once-taken = once-taken n some many; at-lift = at-lift n some many }
+second-read-finds-the-same n some many = second-read _ n refl some many
 
 -- ---- the premise, and the drawn edition
 
@@ -150,8 +152,8 @@ second-read-is-sharp =
 -- ---- place 28
 
 lost-step : (s : LockState) (p : ℕ) → isLost s p ≡ true → stepped s p ≡ s
-unfolding stepped Acts.lost
-lost-step s p h = ap (λ m. act (placeAt m) s p) (eqb-true ((row s p) .place) 28 h)
+unfolding stepped
+lost-step s p h = ap (λ m. act (placeAt m) s p) (eqb-true ((row s p) .place) 28 h) ∙ sym (lost-same s p)
 
 pub lost-changes-nothing : LostChangesNothing
 unfolding happens

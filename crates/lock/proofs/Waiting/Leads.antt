@@ -4,7 +4,7 @@
 --     goes             a step of p ends where the test passes; the other rows are as Goes says
 --     unjoined-leads   where the act of a place leads that is neither the swap nor one of the old boards' lock, by one computed test
 use Prim.Native.Nat.{ℕ, suc, _<_}
-use mathlib.Core.Path.{_≡_, refl, sym, ap, _∙_}
+use mathlib.Core.Path.{_≡_, refl, sym, ap, subst, _∙_}
 use mathlib.Core.Bool.{Bool, true, false, _&&_, _||_}
 use mathlib.Core.List.{List, [], _∷_}
 use lib.ListN.{length}
@@ -15,7 +15,7 @@ use Rattle.choice.proofs.Tests.{clash, and-left, and-right, right-of, implies, 
 use Rattle.lock.specs.State.{isNone, isPlain, isDrawn, isGuarded, isOld, Released, Locked, Preempted, RP, row, putTail, putNext, putLocked, to, putPred}
 use Rattle.lock.specs.Sound.{isIn, places}
 use Rattle.lock.specs.Table.{Place, placeAt, act, rest, gate, clear, swap, arm, link, claim, spin, settle, inside, poll, service, back, regain, look, close, await, hand, fence, park, peek, take, lift, oldTry, oldPoll, oldService, oldFree, reread, lost}
-use Rattle.lock.proofs.Ground.Places.{Each, begin, _▹_, at-number}
+use Rattle.lock.proofs.Ground.Places.{Each, begin, _▹_, at-number, lost-same}
 use Rattle.lock.proofs.Ground.Facts.{Phase, entry, number, normal, phaseAt, isApart, at-facts}
 use Rattle.lock.proofs.Waiting.Kept.{Kept, kept-self, kept-tail, kept-next, kept-guard, kept-flag, kept-pred, kept-succ, kept-nx, kept-release, kept-own, kept-locked, Goes, goes-to, stays}
 use Rattle.lock.specs.declared.LockState.{LockState}
@@ -248,8 +248,7 @@ module _ (s : LockState) (p : ℕ) (there : p < length (s .rows)) (ok : Place �
       (ends here h _ refl (kept-succ _ (kept-nx _ kept-self)))
 
   goes-lost : At lost → Led lost → Goes s p ok (Acts.lost s p)
-  unfolding Acts.lost
-  goes-lost here h = remains here h refl refl kept-self
+  goes-lost here h = subst (Goes s p ok) (lost-same s p) (remains here h refl refl kept-self)
 
   -- the act of each place
   acts : Each (λ m. At (placeAt m) → Led (placeAt m) → Goes s p ok (act (placeAt m) s p)) places
