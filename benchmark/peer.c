@@ -1,4 +1,4 @@
-/* peer.c: lockbench once more, in C, after document 01 and request [1]: a schedule on standard input, its log on
+/* peer.c: lockbench once more, in C, after document 01 and the requests: a schedule on standard input, its log on
  * standard output. It is a yardstick for speed and no test, and nothing is proved of it: the state stands in one static
  * struct, each act writes the cells that it names in place, and nothing is copied. `benchmark/run` compiles it, compares
  * its logs and sets its time beside lockbench's. */
@@ -12,7 +12,7 @@ enum { RELEASED, LOCKED, PREEMPTED, RP };
 enum {
     REST, GATE, CLEAR, SWAP, ARM, LINK, CLAIM, SPIN, SETTLE, INSIDE, POLL, SERVICE,
     BACK, REGAIN, LOOK, CLOSE, AWAIT, HAND, FENCE, PARK, PEEK, TAKE, LIFT,
-    OLD_TRY, OLD_POLL, OLD_SERVICE, OLD_FREE
+    OLD_TRY, OLD_POLL, OLD_SERVICE, OLD_FREE, REREAD, LOST
 };
 
 struct row { uint8_t next, locked, guard, flag, place, pred, succ, nx; };
@@ -126,10 +126,10 @@ static int exchange(struct row *r, uint8_t was, uint8_t becomes, struct row *own
     return 1;
 }
 
-/* places 4 to 6 have a pred, 17 to 22 a succ */
+/* places 4 to 6 have a pred, 17 to 22 and 27 a succ */
 static void step(uint8_t p) {
     struct row *rows = lock.rows, *own = &rows[p];
-    int plain = lock.edition == PLAIN, old = lock.edition == OLD;
+    int plain = lock.edition == PLAIN, drawn = lock.edition == DRAWN, old = lock.edition == OLD;
     switch (own->place) {
     case REST: if (own->flag) own->flag = 0; else if (old) own->place = OLD_TRY; else to_queue(own); break;
     case GATE: if (!own->guard) own->place = CLEAR; break;
@@ -154,17 +154,23 @@ static void step(uint8_t p) {
     case HAND:
         if (plain) { rows[own->succ].locked = RELEASED; own->place = REST; }
         else if (exchange(&rows[own->succ], LOCKED, RELEASED, own, REST)) break;
-        else own->place = lock.edition == DRAWN ? PARK : FENCE;
+        else own->place = drawn ? PARK : FENCE;
         break;
     case FENCE: rows[own->succ].guard = 1; own->place = PARK; break;
     case PARK: if (!exchange(&rows[own->succ], PREEMPTED, RP, own, PEEK)) { own->nx = own->succ; to_lift(own); } break;
     case PEEK: own->nx = rows[own->succ].next; if (own->nx == NONE) to_lift(own); else own->place = TAKE; break;
-    case TAKE: if (!exchange(&rows[own->succ], RP, RELEASED, own, TAKE)) own->nx = NONE; to_lift(own); break;
+    case TAKE:
+        if (exchange(&rows[own->succ], RP, RELEASED, own, drawn ? REREAD : LIFT)) break;
+        own->nx = NONE;
+        to_lift(own);
+        break;
     case LIFT: rows[own->succ].guard = 0; onward(own); break;
     case OLD_TRY: if (lock.tail == NONE) { lock.tail = p; own->place = INSIDE; } else own->place = OLD_POLL; break;
     case OLD_POLL: if (own->flag) { own->flag = 0; own->place = OLD_SERVICE; } else own->place = OLD_TRY; break;
     case OLD_SERVICE: own->place = OLD_TRY; break;
     case OLD_FREE: lock.tail = NONE; own->place = REST; break;
+    case REREAD: own->nx = rows[own->succ].next; if (own->nx == NONE) own->place = LOST; else onward(own); break;
+    case LOST: break;
     }
 }
 
