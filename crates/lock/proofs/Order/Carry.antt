@@ -14,7 +14,7 @@ use mathlib.Core.Path.{_≡_, refl, sym, ap, _∙_}
 use mathlib.Core.Bool.{Bool, true, false, _||_, cond}
 use mathlib.Core.Logic.{_≢_}
 use native.Mathlib.Omega.{arith}
-use Rattle.lock.specs.State.{none, isNone}
+use Rattle.lock.specs.State.{isNone}
 use Rattle.lock.proofs.Ground.Facts.{Role, out, raw, wait, tok, rel, lag, Facts}
 use Rattle.lock.proofs.Order.Tickets.{Tickets}
 use Rattle.lock.proofs.Order.Roles.{isQueued}

@@ -20,7 +20,7 @@ use Rattle.lock.proofs.Ground.Writes.{own-start, Both, both-start, row-
 use Rattle.lock.proofs.Order.Roles.{parked-out, parked-settled, peeked-fences}
 use Rattle.lock.proofs.Order.Statement.{Ghost, upd, upd-same, upd-other, upd-back, Linked, Rel, Lag, given-map, Fencing, Fenced, Fit, FitRow, Holds}
 use Rattle.lock.proofs.Order.Carry.{passed, refenced, refence-books, pass-fit, fenced-same, manned-same, fencing-map, refence, refence-fit, books-pop}
-use Rattle.lock.proofs.Order.Near.{duty-as, served-first, pop-asks, peeked-next, parked-tok-at}
+use Rattle.lock.proofs.Order.Near.{served-first, pop-asks, peeked-next, parked-tok-at}
 use Rattle.lock.proofs.Order.Build.{own-holds, both-holds, free-fit, relock}
 use Rattle.lock.proofs.Order.Quiet.{ordered-drawn, mine, lag-on}
 use Rattle.lock.specs.Acts as Acts

@@ -9,9 +9,9 @@ use mathlib.Core.Bool.{Bool, true, false, _&&_}
 use mathlib.Core.Logic.{_≢_}
 use mathlib.Core.List.{List, [], _∷_, _++_}
 use native.Mathlib.Omega.{arith}
-use lib.Dec.{eqb, ltb}
+use lib.Dec.{eqb}
 use lib.ListN.{length}
-use borrow.Author.Tests.{eqb-true, eqb-false, eq-eqb, lt-leb}
+use borrow.Author.Tests.{eqb-true, lt-leb}
 use Rattle.choice.proofs.Tests.{clash, and-left, and-right}
 use Rattle.lock.specs.declared.Row.{Row}
 use Rattle.lock.specs.declared.LockState.{LockState}
@@ -22,14 +22,14 @@ use Rattle.lock.specs.Run.{Call, after, run, stepsOf, enters, isInside}
 use Rattle.lock.specs.Count.{countIn, stepsIn, allEntriesIn}
 use Rattle.lock.specs.Cases.{step, steps, raise}
 use Rattle.lock.specs.Claims.{reached}
-use Rattle.lock.specs.Reread.{FindsTheSame, takes, Taken, SameAtTake, SameAtLift, SameOnceTaken, SecondRead, SecondReadFindsTheSame, ReadsAnother, TakenMet, SecondReadIsSharp, lostBefore, lostSince, lostUnread, isLost, LostChangesNothing, LostStaysLost, NobodyEntersOnceLost, LockIsLost}
+use Rattle.lock.specs.Reread.{takes, SameAtTake, SameAtLift, SameOnceTaken, SecondRead, SecondReadFindsTheSame, ReadsAnother, TakenMet, SecondReadIsSharp, lostBefore, lostSince, lostUnread, isLost, LostChangesNothing, LostStaysLost, NobodyEntersOnceLost, LockIsLost}
 use Rattle.lock.proofs.Ground.Places.{lost-same}
 use Rattle.lock.proofs.Order.Tickets.{noTickets, isOrdered}
 use Rattle.lock.proofs.Order.Invariant.{Inv, inv-fresh, inv-after, inv-entry, inv-at-take, inv-at-lift, inv-taken}
 use Rattle.lock.proofs.Exclusion.{Excl, excl-fresh, excl-after, excl-inside, excl-lost}
 use Rattle.lock.proofs.Waiting.Kept.{Cells, cells-self, cells-on}
-use Rattle.lock.proofs.Waiting.Counting.{ticketsOf, run-append, count-none, count-no}
-use Rattle.lock.proofs.Waiting.Stepping.{by-step, there, whoever, anywhere, rows-after, unmoved, enters-steps}
+use Rattle.lock.proofs.Waiting.Counting.{ticketsOf, count-none, count-no}
+use Rattle.lock.proofs.Waiting.Stepping.{by-step, there, whoever, anywhere, rows-after, unmoved}
 use Rattle.lock.proofs.Waiting.Demand as Demand
 use Rattle.lock.proofs.Roof.Inside as Inside
 use Rattle.lock.proofs.Roof.Opened.{computed}
