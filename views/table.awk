@@ -1,5 +1,5 @@
-# table.awk: document 01's places and its step table, with the old edition of document 02, as the views know them. In
-# order: names and phases, a step as a list of writes, the acts of the queue lock, those of the old edition.
+# table.awk: document 01's places and its step table, with document 02's old edition and second read, as the views know
+# them. In order: names and phases, a step as a list of writes, the acts of the queue lock, those of the old edition.
 #
 # now[NAME, p] is a cell of processor p's row as the run has it; now["L", LOCK] is L. A step writes nothing at once:
 # put() notes what it would write, so that a line of the log can first be held against it. `did` says what it does.
@@ -18,16 +18,16 @@ BEGIN {
 
     REST = 0; GATE = 1; CLEAR = 2; SWAP = 3; ARM = 4; LINK = 5; CLAIM = 6; SPIN = 7; SETTLE = 8; INSIDE = 9; POLL = 10
     SERVICE = 11; BACK = 12; REGAIN = 13; LOOK = 14; CLOSE = 15; AWAIT = 16; HAND = 17; FENCE = 18; PARK = 19; PEEK = 20
-    TAKE = 21; LIFT = 22; TRY = 23; OLD_POLL = 24; OLD_SERVICE = 25; FREE = 26
+    TAKE = 21; LIFT = 22; TRY = 23; OLD_POLL = 24; OLD_SERVICE = 25; FREE = 26; REREAD = 27; LOST = 28
     PLACES = split("rest gate clear swap arm link claim spin settle inside poll service back regain look close await " \
-        "hand fence park peek take lift try poll service free", named, " ")
+        "hand fence park peek take lift try poll service free reread lost", named, " ")
     for (k = 0; k < PLACES; k++) {
         place_name[k] = named[k + 1]
         phase[k] = phase_of(k)
     }
     split("0 2 3 4 5 7 9 14 15 16 17", list, " ")
     for (k in list) has[PLAIN, list[k]] = has[DRAWN, list[k]] = 1
-    split("6 8 10 11 12 13 19 20 21", list, " ")
+    split("6 8 10 11 12 13 19 20 21 27 28", list, " ")
     for (k in list) has[DRAWN, list[k]] = 1
     for (k = REST; k <= LIFT; k++) has[GUARDED, k] = 1
     split("0 9 23 24 25 26", list, " ")
@@ -51,6 +51,7 @@ function phase_of(k) {
     if (k >= SERVICE && k <= REGAIN || k == OLD_SERVICE) return "in service"
     if (k == TRY || k == OLD_POLL) return "trying"
     if (k == FREE) return "freeing"
+    if (k == LOST) return "lost"
     return k <= POLL ? "waiting" : "handing on"
 }
 
@@ -79,7 +80,7 @@ function step(p,    k) {
     writes = 0
     did = pass = ""
     k = now["place", p]
-    if (k >= TRY) try_for(p, k, now["L", LOCK])
+    if (k >= TRY && k <= FREE) try_for(p, k, now["L", LOCK])
     else if (phase[k] == "at rest" || phase[k] == "on the way") way_in(p, k)
     else if (phase[k] == "waiting") wait(p, k, now["pred", p])
     else if (phase[k] == "in service") serve(p, k)
@@ -184,9 +185,12 @@ function hand_on(p, k, behind,    found) {
     else if (k == TAKE && found == R_P) {
         put("locked", behind, RELEASED)
         passes("taken back", behind, p)
-        lift_next(p, now["nx", p], "takes it back from " behind)
+        # the drawn edition does not go by what it peeked: it reads once more
+        go(p, edition == DRAWN ? REREAD : LIFT, "takes it back from " behind)
     }
     else if (k == TAKE) lift_next(p, NONE, "takes nothing back: " finds(behind))
+    else if (k == REREAD) reread(p, behind, now["nx", p], now["next", behind])
+    else if (k == LOST) go(p, LOST, "does nothing: the lock is lost")
     else { put("guard", behind, 0); on_or_out(p, now["nx", p], "lifts the guard of " behind) }
 }
 
@@ -202,6 +206,13 @@ function look(p, k, behind) {
 function peek(p, behind, second) {
     if (second == NONE) lift_next(p, NONE, "sees no one behind " behind)
     else { put("nx", p, second); go(p, TAKE, "sees " second " behind " behind) }
+}
+
+# The one peeked need not stand behind succ any more, and nobody need: then there is nobody to hand the lock to.
+function reread(p, behind, peeked, second) {
+    put("nx", p, second)
+    if (second == NONE) go(p, LOST, "sees no one behind " behind " any more: the lock is lost")
+    else on_or_out(p, second, "sees " second " behind " behind (second == peeked ? " still" : ", and " peeked " no more"))
 }
 
 # To place 22 with that nx. The drawn edition has no place 22 and makes its choice in the same step.
