@@ -64,7 +64,7 @@ function picture_name(    s) {
     s = summary()
     # one waiter may be passed over hundreds of times
     if (length(s) > 300) s = "one " start_noun[edition] " was passed over, by " overtakings " entries"
-    return edition_name[edition] ", N " N ": " s
+    return edition_name[edition] ", N " N ": " (lost_line ? lost_words() "; " : "") s
 }
 
 function shown_words(    s) {

@@ -42,6 +42,7 @@ function strip(a, b,    p, k) {
     frames("band", 11.5)
     for (k = a; k <= b; k++) if (k in at_who) happening(k)
     for (k = a; k <= b; k++) if (k in over_many) overtaking(k)
+    lost_event()
     draw_flags(down, 9)
     if (b == 1) write_text("", strip_right + 24, lanes_top + lane_high / 2 + 4, "start", "no events")
     end_mark(N * lane_high)
@@ -109,6 +110,12 @@ function happening(k,    x, y, said) {
 
 function request_words(k) {
     return "line " k ": interrupt request for processor " at_who[k] (at_note[k] == "" ? "" : ", " at_note[k])
+}
+
+# Where that line is shown; no line is 0.
+function lost_event() {
+    if (lost_line >= strip_lo && lost_line <= strip_hi)
+        lost_mark(x_of(lost_line), lane_y(at_who[lost_line]), losing_words())
 }
 
 function overtaking(k,    n, x, y) {

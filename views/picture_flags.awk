@@ -1,5 +1,6 @@
-# picture_flags.awk: overtakings as both kinds of a picture show them: their words, the frames on the lanes of those
-# passed over, and flags, the words above the lanes with a line down to the entry. In order: those three.
+# picture_flags.awk: overtakings, and the loss of the lock, as both kinds of a picture show them: their words, the
+# frames on the lanes of those passed over, and flags, the words above the lanes with a line down to the event. In
+# order: those three.
 
 BEGIN {
     FLAG_ROWS = 5
@@ -34,6 +35,10 @@ function passed_words(k, j, short) {
         (interrupted(j, k) ? ", interrupt " join_interrupt[j] : "") ")"
 }
 
+function losing_words() {
+    return "line " lost_line ": " at_who[lost_line] " loses the lock, and nobody enters any more"
+}
+
 function interrupted(j, k) {
     return join_interrupt[j] > 0 && join_interrupt[j] < k
 }
@@ -63,11 +68,12 @@ function frame_words(j) {
 # ---- flags
 
 # From right to left, as a flag can stand above those that begin to its right without its line crossing them. Where
-# there is no room for its words it has a few of them, and else the mark alone has them.
+# there is no room for its words it has a few of them, and else the mark alone has them. The loss of the lock always has
+# room: as nobody enters after it, it is the first.
 function place_flags(named_most, short,    k, f) {
     flags = flag_rows = flags_left_out = 0
     for (k = strip_hi; k >= strip_lo; k--) {
-        if (!(k in over_many)) continue
+        if (!(k in over_many) && k != lost_line) continue
         f = flags + 1
         flag_line[f] = k
         if (flag_with(f, k, named_most, short) || flag_with(f, k, named_most, 1)) flags = f
@@ -77,8 +83,12 @@ function place_flags(named_most, short,    k, f) {
 }
 
 function flag_with(f, k, named_most, short) {
-    flag_words[f] = overtaking_words(k, named_most, short)
+    flag_words[f] = flag_said(k, named_most, short)
     return find_room(f, x_of(k), text_width(flag_words[f], 11, 1) + 6)
+}
+
+function flag_said(k, named_most, short) {
+    return k == lost_line ? losing_words() : overtaking_words(k, named_most, short)
 }
 
 # A flag begins at its line, in the lowest row that is free; or it ends there, in the highest.
@@ -128,7 +138,7 @@ function draw_flags(bottom, half,    f, y) {
         # broken where a number of the axis may stand
         shape("lead", straight(flag_x[f], y, flag_x[f], bottom + 1) \
             straight(flag_x[f], lanes_top - 4, flag_x[f], lane_y(at_who[flag_line[f]]) - half))
-        write_text("flag", flag_x1[f] + 3, y - 4, "start", flag_words[f], overtaking_words(flag_line[f], N))
+        write_text("flag", flag_x1[f] + 3, y - 4, "start", flag_words[f], flag_said(flag_line[f], N))
     }
     if (flags_left_out > 0)
         write_text("flag", LEFT, bottom - flag_rows * FLAG_HIGH - 4, "start", many_of(flags_left_out, \

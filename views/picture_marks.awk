@@ -5,8 +5,8 @@
 
 BEGIN {
     # the old edition tries where the others wait, and frees the lock where they hand it on
-    PHASES = split("inside,handing on,freeing,waiting,trying,in service,on the way,at rest", phase_named, ",")
-    split("inside handing handing waiting waiting service way rest", phase_class, " ")
+    PHASES = split("inside,lost,handing on,freeing,waiting,trying,in service,on the way,at rest", phase_named, ",")
+    split("inside lost handing handing waiting waiting service way rest", phase_class, " ")
     for (k = 1; k <= PHASES; k++) class_of[phase_named[k]] = phase_class[k]
     PASSES = split("handed,parked,claimed,taken back", pass_named, ",")
     pass_class["handed"] = "handed"; pass_class["parked"] = "parked"
@@ -38,11 +38,11 @@ function style(wide) {
         ".over{stroke:#111;stroke-width:6}.overcore{stroke:#e00000;stroke-width:2.8}\n" \
         ".overentry{fill:#e00000;stroke:#111;stroke-width:2}\n" \
         ".thin{stroke:#c00000;stroke-width:1.6}.lead{stroke:#c00000;stroke-dasharray:2 2}\n" \
-        "</style>\n<defs>\n" \
+        (lost_line ? ".lost{fill:url(#bars);stroke:#111;stroke-width:1.6}\n" : "") "</style>\n<defs>\n" \
         pattern("hatch", 6, "<path d=\"M-1 1l2-2M0 6l6-6M5 7l2-2\" stroke=\"#24455f\" stroke-width=\"2\"/>") \
         pattern("dots", 5, "<circle cx=\"2.5\" cy=\"2.5\" r=\"0.8\" fill=\"#333\"/>") \
         pattern("rules", 4, "<path d=\"M0 2h4\" stroke=\"#777\" stroke-width=\"0.8\"/>") \
-        "</defs>"
+        (lost_line ? pattern("bars", 8, "<path d=\"M3 0v8\" stroke=\"#b00000\" stroke-width=\"4\"/>") : "") "</defs>"
 }
 
 function pattern(id, side, ink,    square) {
@@ -53,9 +53,9 @@ function pattern(id, side, ink,    square) {
 
 # ---- phases
 
-# A stretch of a lane whose middle is at y.
+# A stretch of a lane whose middle is at y; high where the processor has the lock and does not hand it on.
 function bar(which, x1, x2, y, said,    half) {
-    half = which == "inside" ? 8 : 5
+    half = which == "inside" || which == "lost" ? 8 : 5
     if (which == "at rest" || which == "on the way") shape(class_of[which], straight(x1, y, x2, y), said)
     else shape(class_of[which], box(x1, y - half, x2 - x1, 2 * half), said)
 }
@@ -123,6 +123,17 @@ function band(x1, x2, y, half, starts, ends, broken, said,    up, foot, data) {
     shape(broken ? "band broken" : "band", data, said)
 }
 
+# ---- the lost lock
+
+# A cross, where the second read finds no one.
+function lost_mark(x, y, said,    cross) {
+    cross = straight(x - 7, y - 7, x + 7, y + 7) straight(x - 7, y + 7, x + 7, y - 7)
+    open_group(said)
+    shape("over", cross)
+    shape("overcore", cross)
+    close_group()
+}
+
 # ---- the legend
 
 # Lays out samples with their words from left to right; answers the y below them.
@@ -132,6 +143,7 @@ function legend(left, right, y, cells) {
     legend_y = y
     legend_phases(cells ? "area" : "bar")
     if (!cells) legend_marks()
+    if (lost_line) sample("losing", "", "loses the lock", 22)
     sample("overentry", "", "enters and overtakes" (cells ? " (a number: so many times in the cell)" : ""), 18)
     sample("frame", "", "is passed over, from its " start_noun[edition] " on", 32)
     sample("broken", "", "the same, but it had taken an interrupt", 32)
@@ -141,6 +153,8 @@ function legend(left, right, y, cells) {
 function legend_phases(kind,    k, many, order) {
     many = split(queued[edition] ? "at rest,on the way,waiting,inside,in service,handing on" : \
         "at rest,trying,inside,in service,freeing", order, ",")
+    # only drawn has it, and few of its logs
+    if (lost_line) order[++many] = "lost"
     for (k = 1; k <= many; k++) sample(kind, order[k], order[k], 34)
     legend_break()
 }
@@ -172,6 +186,7 @@ function sample(kind, which, words, wide,    x, y) {
     if (kind == "join" || kind == "both") join_mark(x + 7, y)
     if (kind == "entry" || kind == "both") entry_mark(x + 7, y, 5.5, "entry")
     if (kind == "overentry") entry_mark(x + 9, y, 8.5, "overentry")
+    if (kind == "losing") lost_mark(x + 11, y)
     if (kind == "request") request_mark(x + 6, y + 8)
     if (kind == "tick") event_tick(x + 4, y - 10)
     if (kind == "arrow") arrow(which, x + 6, y - 13, y + 16)

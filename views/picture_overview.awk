@@ -29,6 +29,7 @@ function overview(    p) {
     for (p = 0; p < N; p++) share_lane(p)
     frames("band", lane_high / 2 - 2)
     for (p = 0; p < N; p++) passing_entries(p)
+    lost_event()
     draw_flags(down, 6)
     end_mark(N * lane_high)
     down = lanes_top + N * lane_high + 14
@@ -102,7 +103,7 @@ function share_lane(p,    c, y) {
     close_group()
 }
 
-# From below: inside, handing on, and so on; at rest is the paper above them.
+# From below: inside, lost, handing on, and so on; at rest is the paper above them.
 function share_cell(p, c, y,    i, x, wide, high, part, foot) {
     x = LEFT + (cell_from(c) - lo) * col
     wide = (cell_to(c) - cell_from(c) + 1) * col
@@ -188,12 +189,15 @@ function listed_overtakings(    k, n) {
         write_text("", 24, down += 16, "start", overtaking_words(k, 3) ":  " part_around(k))
     }
     if (n > LISTED) write_text("", 24, down += 16, "start", "and " n - LISTED " more")
+    if (lost_line >= lo && lost_line <= hi)
+        write_text("lane", 12, down += 20, "start", losing_words() "; the part to look at:  " part_around(lost_line))
     down += 14
 }
 
-# From the earliest join that the entry passes, if that is near enough to be shown line by line.
+# From the earliest join that the entry passes, or the last join of the one that loses the lock, if that is near
+# enough to be shown line by line.
 function part_around(k,    a, b) {
-    a = join_line[over_join[k, 1]]
+    a = k == lost_line ? latest[at_who[k]] : join_line[over_join[k, 1]]
     b = least(last, 10 * round_up((k + 5) / 10))
     a = most_of(1, 10 * int((a - 5) / 10))
     return "--from " most_of(a, b - DETAIL + 1) " --to " b

@@ -1,14 +1,17 @@
-# run.awk: what a replayed log shows of the queue: joins, entries, interrupts taken, who waits, and who was passed over.
-# The words are those of docs/RANDOM.md, 'The verdict in numbers'. In order: joins and entries, the queue, the order.
+# run.awk: what a replayed log shows of the queue: joins, entries, interrupts taken, who waits, who was passed over, and
+# whether the lock was lost. The words are those of docs/RANDOM.md, 'The verdict in numbers'. In order: joins and
+# entries, the queue, the order.
 # The old edition has no joins: there the first try takes the place of the join, here and in every view.
 #
 # What is left of line k: at_queue, and whether k is in at_join, at_entry, at_interrupt. Of join j, from 1 to joins:
 # join_who and join_line; join_end (entered, again or open) and join_end_line; join_waited, the entries of others in its
 # stretch; join_interrupt, the line of the first interrupt taken in it, or 0; join_passed, the number of overtakings,
 # and of each of them, i from 1: passer_who[j, i], passer_joined[j, i], passer_entered[j, i].
+#
+# And lost_line, the line at which the lock is lost, or 0. It is lost once: who loses it has it for ever.
 
 BEGIN {
-    joins = entries = interrupts = overtakings = standing = 0
+    joins = entries = interrupts = overtakings = standing = lost_line = 0
 }
 
 # An event of processor p that stood at `from` has been carried out.
@@ -16,6 +19,7 @@ function follow(p, from, stepped) {
     if (stepped && (from == SWAP || from == TRY && first_try(p))) join(p)
     if (stepped && (from in service_of) && now["place", p] == service_of[from]) interrupt(p)
     if (stepped && from != INSIDE && now["place", p] == INSIDE) enter(p)
+    if (stepped && from != LOST && now["place", p] == LOST) lost_line = number
     if (stepped) came_from[p] = from
     if (queued[edition]) at_queue[number] = queue()
 }
@@ -84,12 +88,14 @@ function stand_last(p,    k, kept) {
     line_up[standing] = p
 }
 
-# Who is inside (starred) or handing on, a bar, and who waits, in the order of the latest joins; in service in brackets.
+# Who is inside (starred), lost (!) or handing on, a bar, and who waits, in the order of the latest joins; in service in
+# brackets.
 function queue(    k, p, where, inside, handing, waiting) {
     for (k = 1; k <= standing; k++) {
         p = line_up[k]
         where = phase[now["place", p]]
         if (where == "inside") inside = inside " *" p
+        if (where == "lost") inside = inside " !" p
         if (where == "handing on") handing = handing " " p
         if (where == "waiting") waiting = waiting " " p
         if (where == "in service") waiting = waiting " [" p "]"

@@ -209,10 +209,11 @@ function peek(p, behind, second) {
 }
 
 # The one peeked need not stand behind succ any more, and nobody need: then there is nobody to hand the lock to.
-function reread(p, behind, peeked, second) {
+function reread(p, behind, peeked, second,    change) {
+    change = second == peeked ? " still" : ", not " peeked " any more"
     put("nx", p, second)
     if (second == NONE) go(p, LOST, "sees no one behind " behind " any more: the lock is lost")
-    else on_or_out(p, second, "sees " second " behind " behind (second == peeked ? " still" : ", and " peeked " no more"))
+    else on_or_out(p, second, "sees " second " behind " behind change)
 }
 
 # To place 22 with that nx. The drawn edition has no place 22 and makes its choice in the same step.

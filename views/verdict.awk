@@ -1,5 +1,6 @@
-# verdict.awk: who waited how long, and who was passed over by whom, told from a replayed log. It ends every log in
-# words; verdict_main.awk prints it alone. In order: the table of joins, the sentences, the summary in a few words.
+# verdict.awk: who waited how long, who was passed over by whom, and whether the lock was lost, told from a replayed
+# log. It ends every log in words; verdict_main.awk prints it alone. In order: the table of joins, the sentences, the
+# summary in a few words.
 
 function verdict(    j) {
     print "Verdict"
@@ -10,6 +11,11 @@ function verdict(    j) {
     }
     if (joins > 0) {
         join_table()
+        print ""
+    }
+    if (lost_line) {
+        print lost_words() ": it has the lock and knows no one to hand it to, so nobody enters any more"
+        print in_vain()
         print ""
     }
     for (j = 1; j <= joins; j++)
@@ -54,6 +60,18 @@ function passers(j, between, by,    i, list) {
 
 function passer(q, joined, entered) {
     return q " (" start_past[edition] (joined == entered ? " and" : " " joined ",") " entered " entered ")"
+}
+
+function lost_words() {
+    return "the lock is lost from line " lost_line " on, with processor " at_who[lost_line]
+}
+
+# Who has joined and not entered. There always is one: the processor from which the lock was taken back.
+function in_vain(    j, many, list) {
+    for (j = 1; j <= joins; j++)
+        if (join_end[j] == "open")
+            list = list (++many == 1 ? "" : " and ") join_who[j] " (" start_past[edition] " " join_line[j] ")"
+    return list (many == 1 ? " waits" : " wait") " for it in vain"
 }
 
 function sentence(j,    how) {

@@ -51,7 +51,8 @@ function none_or(x) {
 
 function notes(    k, alike) {
     if (events > 0 && queued[edition])
-        print "\nqueue: *inside or handing on | who waits, in the order of the latest joins; [in service]"
+        print "\nqueue: *inside or handing on | who waits, in the order of the latest joins; [in service]" \
+            (lost_line ? "; !lost with the lock" : "")
     if (events > 0 && !queued[edition]) print "\nL: who has the lock; this edition has no queue"
     for (k = first_shown; k <= last_shown; k++)
         if (at_act[k] ~ / or raise$/) alike = 1
