@@ -1,20 +1,25 @@
 # numbers.awk: a log in words to docs/RANDOM.md's verdict in numbers, for .ci/verdicts. Each step is added to the file that
-# `places` names: edition, name of the place, place it leads to.
+# `places` names: edition, name of the place, place it leads to. The status is 1 where the verdict does not say that the lock is
+# lost though one goes to place 28, or names another line; or where somebody enters after that line.
 
 /^   1  edition / { edition = $3; N = $6 + 0 }
 /^line / { act = index($0, "act"); place = index($0, "place"); next }
 /^$/ { act = table = 0 }
-act && /^ *[0-9]+ / && $2 != "REFUSED," { event(substr($0, act, place - act), substr($0, place)) }
+act && /^ *[0-9]+ / && $2 != "REFUSED," { event($1, substr($0, act, place - act), substr($0, place)) }
 table { joins = joins "\n" join($1, $2, $0) }
 /^(joined|first tried) / { table = 1 }
+/^the lock is lost from line / { told = $7 }
 END {
     if (N == 0) exit
     print "run " edition " " N " " events + 0
     print "acts " (letters == "" ? "none" : letters) joins
+    exit told + 0 != lost + 0 || late
 }
 
-function event(name, to) {
+function event(line, name, to) {
     events++
+    if (lost && to ~ /^to 9 /) late = 1
+    if (to ~ /^to 28 /) lost = line
     sub(/ +$/, "", name)
     letters = letters (name == "raise" ? "r" : name ~ / or raise$/ ? "b" : "s")
     if (name == "raise") return
