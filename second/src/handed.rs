@@ -22,7 +22,7 @@ const PLACES_TRIED: u8 = 32;
 const FIRST_WITHOUT_PRED: u8 = SWAP;
 const LAST_WITHOUT_PRED: u8 = SPIN;
 const FIRST_WITHOUT_SUCC: u8 = AWAIT;
-const LAST_WITHOUT_SUCC: u8 = 28;
+const LAST_WITHOUT_SUCC: u8 = LOST;
 const FIRST_WITHOUT_NX: u8 = PEEK;
 const LAST_WITHOUT_NX: u8 = LIFT;
 
@@ -33,7 +33,7 @@ const FAILED: u8 = 255;
 /// a fault there must not change the states that are to show it.
 const PLACES_OF: [&[u8]; EDITIONS.len()] = [
     &[0, 2, 3, 4, 5, 7, 9, 14, 15, 16, 17],
-    &[0, 2, 3, 4, 5, 6, 7, 8, 9, 10, 11, 12, 13, 14, 15, 16, 17, 19, 20, 21],
+    &[0, 2, 3, 4, 5, 6, 7, 8, 9, 10, 11, 12, 13, 14, 15, 16, 17, 19, 20, 21, 27, 28],
     &[0, 1, 2, 3, 4, 5, 6, 7, 8, 9, 10, 11, 12, 13, 14, 15, 16, 17, 18, 19, 20, 21, 22],
     &[0, 9, 23, 24, 25, 26],
 ];
@@ -47,7 +47,7 @@ pub fn edition_has(edition: u8, place: u8) -> bool {
 pub fn needs(place: u8, cell: Cell) -> bool {
     match cell {
         Cell::Pred => (ARM..=CLAIM).contains(&place),
-        Cell::Succ => (HAND..=LIFT).contains(&place),
+        Cell::Succ => (HAND..=LIFT).contains(&place) || place == REREAD,
         Cell::Nx => place == TAKE,
         _ => false,
     }

@@ -49,11 +49,13 @@ pub const TRY: u8 = 23;
 pub const OLD_POLL: u8 = 24;
 pub const OLD_SERVICE: u8 = 25;
 pub const FREE: u8 = 26;
-pub const LAST_PLACE: u8 = FREE;
+pub const REREAD: u8 = 27;
+pub const LOST: u8 = 28;
+pub const LAST_PLACE: u8 = LOST;
 pub const PLACES: [&str; LAST_PLACE as usize + 1] = [
     "rest", "gate", "clear", "swap", "arm", "link", "claim", "spin", "settle", "inside", "poll", "service", "back",
     "regain", "look", "close", "await", "hand", "fence", "park", "peek", "take", "lift", "try", "poll", "service",
-    "free",
+    "free", "reread", "lost",
 ];
 
 /// Refusal 6: edition over 3.

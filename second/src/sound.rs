@@ -38,7 +38,7 @@ fn has(edition: u8, place: u8) -> bool {
     let plain = matches!(place, 0 | 2 | 3 | 4 | 5 | 7 | 9 | 14 | 15 | 16 | 17);
     match edition {
         PLAIN => plain,
-        DRAWN => plain || matches!(place, 6 | 8 | 10..=13 | 19 | 20 | 21),
+        DRAWN => plain || matches!(place, 6 | 8 | 10..=13 | 19 | 20 | 21 | 27 | 28),
         GUARDED => place <= LIFT,
         _ => matches!(place, 0 | 9 | 23..=26),
     }
@@ -49,7 +49,7 @@ pub fn needs_pred(place: u8) -> bool {
 }
 
 pub fn needs_succ(place: u8) -> bool {
-    (HAND..=LIFT).contains(&place)
+    (HAND..=LIFT).contains(&place) || place == REREAD
 }
 
 fn needs_nx(place: u8) -> bool {

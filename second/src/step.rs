@@ -165,15 +165,25 @@ impl Lock {
             TAKE => {
                 if r[succ].locked == R_P {
                     r[succ].locked = RELEASED;
+                    if edition == DRAWN {
+                        REREAD
+                    } else {
+                        LIFT
+                    }
                 } else {
                     r[own].nx = NONE;
+                    LIFT
                 }
-                LIFT
             }
             LIFT => {
                 r[succ].guard = false;
-                on_or_out(&mut r[own])
+                on_or(REST, &mut r[own])
             }
+            REREAD => {
+                r[own].nx = r[succ].next;
+                on_or(LOST, &mut r[own])
+            }
+            LOST => LOST,
             TRY => {
                 if self.tail == NONE {
                     self.tail = me;
@@ -199,7 +209,7 @@ impl Lock {
         };
 
         // The drawn edition has no place 22: it makes the choice of 22 in the same step, without the guard.
-        r[own].place = if edition == DRAWN && to == LIFT { on_or_out(&mut r[own]) } else { to };
+        r[own].place = if edition == DRAWN && to == LIFT { on_or(REST, &mut r[own]) } else { to };
     }
 }
 
@@ -212,10 +222,10 @@ fn way_in(edition: u8) -> u8 {
     }
 }
 
-/// The choice of place 22: out to rest, or on with nx as the new succ.
-fn on_or_out(row: &mut Row) -> u8 {
+/// The choice of places 22 and 27: on with nx as the new succ, or to another place if nx is none.
+fn on_or(otherwise: u8, row: &mut Row) -> u8 {
     if row.nx == NONE {
-        REST
+        otherwise
     } else {
         row.succ = row.nx;
         HAND
