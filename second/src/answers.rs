@@ -9,18 +9,60 @@ use crate::lock::*;
 use crate::report::Report;
 use crate::turns::{self, LEAST};
 
+/// A kind of accepted event that no run has, or hardly ever, told from the trial.
+struct Case {
+    words: &'static str,
+    event: u8,
+    holds: fn(lock: &Lock, row: &Row, p: u8) -> bool,
+}
+
+const fn step(words: &'static str, holds: fn(&Lock, &Row, u8) -> bool) -> Case {
+    Case { words, event: STEP, holds }
+}
+
+const fn raise(words: &'static str, holds: fn(&Lock, &Row, u8) -> bool) -> Case {
+    Case { words, event: RAISE, holds }
+}
+
+/// The next that a step at reread finds.
+fn read_again(lock: &Lock, row: &Row) -> u8 {
+    lock.rows[row.succ as usize].next
+}
+
+const CASES: &[Case] = &[
+    // Arm has a pred, but its act does not use it. Look and await only set succ.
+    step("steps that used pred, and it was the processor itself", |_, row, p| {
+        matches!(row.place, LINK | CLAIM) && row.pred == p
+    }),
+    step("steps that used succ, and it was the processor itself", |_, row, p| {
+        handed::needs(row.place, Cell::Succ) && row.succ == p
+    }),
+    step("steps at try, and L was the processor itself", |lock, row, p| row.place == TRY && lock.tail == p),
+    step("steps at free, and L was another or none", |lock, row, p| row.place == FREE && lock.tail != p),
+    step("steps at reread that find none, and nx was not", |lock, row, _| {
+        row.place == REREAD && read_again(lock, row) == NONE && row.nx != NONE
+    }),
+    step("steps at reread that find one, and nx was none", |lock, row, _| {
+        row.place == REREAD && read_again(lock, row) != NONE && row.nx == NONE
+    }),
+    step("steps at reread that find one, and nx was another", |lock, row, _| {
+        row.place == REREAD && ![NONE, row.nx].contains(&read_again(lock, row)) && row.nx != NONE
+    }),
+    step("steps at lost, flag clear", |_, row, _| row.place == LOST && !row.flag),
+    step("steps at lost, flag set", |_, row, _| row.place == LOST && row.flag),
+    raise("raises at reread, flag clear", |_, row, _| row.place == REREAD && !row.flag),
+    raise("raises at reread, flag set", |_, row, _| row.place == REREAD && row.flag),
+    raise("raises at lost, flag clear", |_, row, _| row.place == LOST && !row.flag),
+    raise("raises at lost, flag set", |_, row, _| row.place == LOST && row.flag),
+];
+
 /// What the trials met.
 struct Answers {
     /// Trials by whether the state is not sound, the event is wrong, and the processor is.
     given: [[[u64; 2]; 2]; 2],
     raises: u64,
     steps: u64,
-    /// Accepted steps whose act used pred, or succ, and it was the processor itself.
-    own_pred: u64,
-    own_succ: u64,
-    /// Accepted steps at try that find L the processor itself, and at free that find it is not: no run has these.
-    own_try: u64,
-    other_free: u64,
+    cases: [u64; CASES.len()],
     /// Answers with another refusal than document 01 wants.
     other: u64,
     /// Refused events that give another state back.
@@ -36,10 +78,7 @@ impl Answers {
             given: [[[0; 2]; 2]; 2],
             raises: 0,
             steps: 0,
-            own_pred: 0,
-            own_succ: 0,
-            own_try: 0,
-            other_free: 0,
+            cases: [0; CASES.len()],
             other: 0,
             changed: 0,
             unsound: 0,
@@ -63,18 +102,16 @@ impl Answers {
     fn accepted(&mut self, trial: &Trial, after: &Lock) {
         let p = trial.processor;
         self.unsound += !after.sound() as u64;
+        let row = &trial.lock.rows[p as usize];
+        for (count, case) in self.cases.iter_mut().zip(CASES).filter(|(_, case)| case.event == trial.event) {
+            *count += (case.holds)(&trial.lock, row, p) as u64;
+        }
         if trial.event == RAISE {
             self.raises += 1;
             return;
         }
         self.steps += 1;
         self.counts.step(&trial.lock, after, p as usize);
-        let row = &trial.lock.rows[p as usize];
-        // Arm has a pred, but its act does not use it. Look and await only set succ.
-        self.own_pred += (matches!(row.place, LINK | CLAIM) && row.pred == p) as u64;
-        self.own_succ += (handed::needs(row.place, Cell::Succ) && row.succ == p) as u64;
-        self.own_try += (row.place == TRY && trial.lock.tail == p) as u64;
-        self.other_free += (row.place == FREE && trial.lock.tail != p) as u64;
     }
 
     /// Which of the three refusals comes first.
@@ -106,12 +143,9 @@ impl Answers {
             ("states that fail several tests of soundness", several),
             ("accepted raises", self.raises),
             ("accepted steps", self.steps),
-            ("steps that used pred, and it was the processor itself", self.own_pred),
-            ("steps that used succ, and it was the processor itself", self.own_succ),
-            ("steps at try, and L was the processor itself", self.own_try),
-            ("steps at free, and L was another or none", self.other_free),
         ];
-        for (words, number) in may {
+        let cases = CASES.iter().zip(self.cases).map(|(case, number)| (case.words, number));
+        for (words, number) in may.into_iter().chain(cases) {
             report.line(&format!("{:<56}{:>6}", words, number));
             report.demand(number, LEAST, words);
         }

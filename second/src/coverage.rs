@@ -81,8 +81,8 @@ pub const SIDES: &[Side] = &[
     choice(PEEK, CHOICE_OTHERWISE, |b, a, p| succ(b, p).next == NONE && a.rows[p].nx != NONE),
     side(NOT_PLAIN, TAKE, "succ's locked 3", |b, _, p| succ(b, p).locked == R_P),
     side(NOT_PLAIN, TAKE, "otherwise", |b, _, p| succ(b, p).locked != R_P),
-    choice(TAKE, CHOICE_NONE, |_, a, p| a.rows[p].nx == NONE),
-    choice(TAKE, CHOICE_OTHERWISE, |_, a, p| a.rows[p].nx != NONE),
+    choice(TAKE, CHOICE_NONE, |b, a, p| succ(b, p).locked != R_P && a.rows[p].nx == NONE),
+    choice(TAKE, CHOICE_OTHERWISE, |b, a, p| succ(b, p).locked != R_P && a.rows[p].nx != NONE),
     side(ONLY_GUARDED, LIFT, "nx none", |b, _, p| b.rows[p].nx == NONE),
     side(ONLY_GUARDED, LIFT, "otherwise", |b, _, p| b.rows[p].nx != NONE),
     side(ONLY_OLD, TRY, "L none", |b, _, _| b.tail == NONE),
@@ -91,13 +91,17 @@ pub const SIDES: &[Side] = &[
     side(ONLY_OLD, OLD_POLL, "otherwise", |b, _, p| !b.rows[p].flag),
     side(ONLY_OLD, OLD_SERVICE, NO_TEST, |_, _, _| true),
     side(ONLY_OLD, FREE, NO_TEST, |_, _, _| true),
+    side(ONLY_DRAWN, REREAD, "succ's next none", |b, _, p| succ(b, p).next == NONE),
+    side(ONLY_DRAWN, REREAD, "otherwise", |b, _, p| succ(b, p).next != NONE),
+    side(ONLY_DRAWN, LOST, NO_TEST, |_, _, _| true),
 ];
 
 /// The sides that no run from fresh can take, with the reason.
 /// `reachable` bears them out: it finds every other side, and never one of these.
-const NOT_REACHABLE: [(u8, u8, &str, &str); 2] = [
+const NOT_REACHABLE: [(u8, u8, &str, &str); 3] = [
     (DRAWN, PARK, CHOICE_NONE, "park comes to the choice with nx := succ, and a processor at park has a succ"),
     (DRAWN, PEEK, CHOICE_OTHERWISE, "peek comes to the choice only when nx is none; otherwise it goes to 21"),
+    (DRAWN, TAKE, CHOICE_OTHERWISE, "take comes to the choice only with nx := none; otherwise it goes to 27"),
 ];
 
 fn pred(lock: &Lock, p: usize) -> &Row {
@@ -107,6 +111,10 @@ fn pred(lock: &Lock, p: usize) -> &Row {
 fn succ(lock: &Lock, p: usize) -> &Row {
     &lock.rows[lock.rows[p].succ as usize]
 }
+
+/// Where a raise is counted by its place too: "changes nothing" is said of a step at 28, not of a raise. These runs
+/// come there with the flag set only; the states handed in have both.
+const RAISED_AT: [u8; 2] = [REREAD, LOST];
 
 /// Why a side cannot be taken, if it cannot.
 pub fn not_reachable(edition: u8, side: &Side) -> Option<&'static str> {
@@ -149,6 +157,7 @@ pub fn print() -> (String, bool) {
     let mut counts = Counts::new();
     // A raise has no place; it is counted by whether the flag was clear or already set.
     let mut raises = [[0u64; 2]; EDITIONS.len()];
+    let mut raises_at = [0u64; PLACES.len()];
     let mut refusals = [0u64; 10];
     let mut refusals_old = [0u64; 10];
     for i in 0..random::SCHEDULES {
@@ -158,6 +167,7 @@ pub fn print() -> (String, bool) {
                 counts.step(h.before, h.after, p);
             } else {
                 raises[h.before.edition as usize][h.before.rows[p].flag as usize] += 1;
+                raises_at[h.before.rows[p].place as usize] += 1;
             }
         });
         refusals[refusal as usize] += 1;
@@ -188,6 +198,10 @@ pub fn print() -> (String, bool) {
         for (set, words) in ["flag clear before", "flag set before"].iter().enumerate() {
             let label = format!("{:<8}   {:<8}{:<28}", EDITIONS[edition as usize], "raise", words);
             line(label, raises[edition as usize][set], None);
+        }
+        for place in RAISED_AT.into_iter().filter(|_| edition == DRAWN) {
+            let label = format!("{:<8}   {:<8}at {:<25}", EDITIONS[edition as usize], "raise", PLACES[place as usize]);
+            line(label, raises_at[place as usize], None);
         }
     }
     for refusal in 1..refusals.len() {

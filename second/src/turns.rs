@@ -170,7 +170,7 @@ fn print_needs(edges: &Edges, report: &mut Report) {
     }
     report.line("never alone: the edition has not the place, so the test of the place fails too");
     print_not_needed(edges, report);
-    print_old_needs_nothing(edges, report);
+    print_needs_not(edges, report);
 }
 
 /// Every place that an edition has stands in some sound state without the private cells it does not need.
@@ -192,20 +192,27 @@ fn print_not_needed(edges: &Edges, report: &mut Report) {
     ));
 }
 
-/// The places of the old edition need no private cell.
-fn print_old_needs_nothing(edges: &Edges, report: &mut Report) {
+/// The places of the old edition need no private cell, and of the last two of drawn only reread needs one, a succ.
+fn print_needs_not(edges: &Edges, report: &mut Report) {
     report.line("");
-    report.line("what the places of the old edition need not: met without it, and met with it");
+    report.line("what the places of old, and the last two of drawn, need not: met without it, and met with it");
     let heads: String = PRIVATE_CELLS.iter().map(|cell| format!("{:>26}", cell.name())).collect();
     report.line(&format!("{:<16}{}", "", heads));
-    for place in (REST..=LAST_PLACE).filter(|&place| edition_has(OLD, place)) {
+    let of_old = (REST..=LAST_PLACE).filter(|&place| edition_has(OLD, place)).map(|place| (OLD, place));
+    for (edition, place) in of_old.chain([(DRAWN, REREAD), (DRAWN, LOST)]) {
         let mut line = format!("{:<16}", place_words(place));
         for &cell in PRIVATE_CELLS {
+            if needs(place, cell) {
+                line += &format!("{:>26}", "needed");
+                continue;
+            }
             for (value, side) in [(NONE, "without"), (0, "with")] {
-                let wanted = |a: &Asked| a.edition == OLD && a.test == Test::NeedsNot(place, cell) && a.value == value;
+                let test = Test::NeedsNot(place, cell);
+                let wanted = |a: &Asked| a.edition == edition && a.test == test && a.value == value;
                 let met = edges.met.count(wanted);
                 line += &format!("{:>6} {}", met, side);
-                let words = format!("{} of the old edition, {} {}", place_words(place), side, cell.name());
+                let name = EDITIONS[edition as usize];
+                let words = format!("{} of the {} edition, {} {}", place_words(place), name, side, cell.name());
                 report.demand(met, LEAST, &words);
             }
         }
