@@ -1,4 +1,4 @@
-//! Canon: a spot of watch.rs in 61 bits, and the same bits for all spots that differ only in the processors' numbers
+//! Canon: a spot of watch.rs in 53 bits, and the same bits for all spots that differ only in the processors' numbers
 //! or in cells that are no longer read.
 
 use crate::lock::*;
@@ -12,12 +12,13 @@ const ROWS: usize = MOST_PACKED as usize;
 const NO_ONE: u8 = MOST_PACKED;
 
 /// The places that a processor has between two bundles. A place's code is its index.
-const PLACES_BETWEEN: [u8; 14] =
-    [REST, SWAP, ARM, LINK, CLAIM, SPIN, SETTLE, INSIDE, SERVICE, CLOSE, HAND, PARK, PEEK, TAKE];
-/// The widths of code, locked, later, next, pred or succ, and nx in a row's bits. A place that has one of the last two
-/// needs it, so it is never none there.
-const WIDTHS: [u32; 6] = [4, 2, 1, 3, 2, 2];
-const ROW_WIDTH: usize = 14;
+const PLACES_BETWEEN: [u8; 16] =
+    [REST, SWAP, ARM, LINK, CLAIM, SPIN, SETTLE, INSIDE, SERVICE, CLOSE, HAND, PARK, PEEK, TAKE, REREAD, LOST];
+/// The widths of code, locked, later, next, and pred or succ in a row's bits. A place that has one of the last two
+/// needs it, so it is never none there. No step reads an nx that an earlier one has written, so it is left out: what
+/// peek has found is written over by a take that fails, and by the reread that follows one that succeeds.
+const WIDTHS: [u32; 5] = [4, 2, 1, 3, 2];
+const ROW_WIDTH: usize = 12;
 const TAIL_AT: usize = ROW_WIDTH * ROWS;
 const WATCH_AT: usize = TAIL_AT + 3;
 
@@ -65,7 +66,7 @@ impl Canon {
     pub fn unpack(&self, bits: u64) -> Spot {
         let mut spot = Spot::fresh(self.n);
         for p in 0..self.n as usize {
-            let [code, locked, later, next, other, nx] = row_parts(bits >> (ROW_WIDTH * p));
+            let [code, locked, later, next, other] = row_parts(bits >> (ROW_WIDTH * p));
             let row = &mut spot.lock.rows[p];
             row.place = PLACES_BETWEEN[code as usize];
             row.locked = locked;
@@ -75,9 +76,6 @@ impl Canon {
             }
             if needs_succ(row.place) {
                 row.succ = other;
-            }
-            if row.place == TAKE {
-                row.nx = nx;
             }
             spot.later[p] = later == 1;
         }
@@ -112,14 +110,13 @@ fn row_values(spot: &Spot, p: usize) -> [u8; WIDTHS.len()] {
         place if needs_succ(place) => row.succ,
         _ => NONE,
     };
-    let nx = if row.place == TAKE { row.nx } else { NONE };
-    [code as u8, row.locked, later as u8, number(next), number(other), number(nx)]
+    [code as u8, row.locked, later as u8, number(next), number(other)]
 }
 
 /// A row's bits with the new numbers. No one in a cell of two bits is cut to 0.
 fn row_bits(values: &[u8; WIDTHS.len()], order: &[u8; ROWS + 1]) -> u64 {
-    let [code, locked, later, next, other, nx] = *values;
-    let values = [code, locked, later, order[next as usize], order[other as usize] & 3, order[nx as usize] & 3];
+    let [code, locked, later, next, other] = *values;
+    let values = [code, locked, later, order[next as usize], order[other as usize] & 3];
     values.iter().zip(WIDTHS).fold(0, |bits, (&value, width)| bits << width | value as u64)
 }
 
@@ -142,11 +139,13 @@ fn may_enter(row: &Row) -> bool {
     matches!(row.place, ARM | LINK | CLAIM | SPIN | SETTLE | SERVICE) && !has_lost(row)
 }
 
-/// Whether p's next may be read before p clears it. At rest, with a succ, and where it has lost its place, p itself
-/// will not read it. Another reads it at peek only, and comes there only when it finds p's locked 2. Only p's own poll
-/// makes it 2, and p comes there only after it has cleared its next.
+/// Whether p's next may be read before p clears it. At rest, with a succ, at lost, and where it has lost its place, p
+/// itself will not read it. Another reads it at peek, and again at reread, where it comes from peek by take with p
+/// still its succ. It comes to peek only when it finds p's locked 2. Only p's own poll makes it 2, and p comes there
+/// only after it has cleared its next.
 fn next_is_read(lock: &Lock, p: usize) -> bool {
     let row = &lock.rows[p];
-    let not_by_itself = row.place == REST || needs_succ(row.place) || has_lost(row);
-    !not_by_itself || lock.rows.iter().any(|other| other.place == PEEK && other.succ as usize == p)
+    let not_by_itself = matches!(row.place, REST | LOST) || needs_succ(row.place) || has_lost(row);
+    let may_read = |other: &Row| matches!(other.place, PEEK | TAKE | REREAD) && other.succ as usize == p;
+    !not_by_itself || lock.rows.iter().any(may_read)
 }

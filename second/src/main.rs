@@ -23,6 +23,7 @@ mod watch;
 
 use std::io::{Read, Write};
 use std::process::exit;
+use watch::Goal;
 
 const USAGE: &str = "usage: second              a schedule on standard input, its log on standard output
        second random       the sizes and digests of the 640 random logs
@@ -36,8 +37,13 @@ const USAGE: &str = "usage: second              a schedule on standard input, it
        second order one    the same for one schedule on standard input
        second reachable N  all states of N processors that can be reached from fresh, N from 1 to 3
        second shortest N   the least number of events in which the drawn edition lets a waiter of N processors that
-                           takes no interrupt be passed over and then enter, or none, N from 2 to 4
+                           takes no interrupt be passed over and then enter, or none, N from 1 to 4
        second shortest N schedule
+                           a schedule of that many events
+       second shortest N lost
+                           the least number of events in which a processor of N of the drawn edition comes to place
+                           28, lost, or none
+       second shortest N lost schedule
                            a schedule of that many events
        second shortest N old
                            the least number of events in which the old edition of N processors shows an overtaking
@@ -67,8 +73,10 @@ fn main() {
             Ok(n) if (1..=reachable::MOST_SEARCHED).contains(&n) => judge(reachable::print(n)),
             _ => usage(),
         },
-        ["shortest", n] => shortest(n, shortest::print),
-        ["shortest", n, "schedule"] => shortest(n, shortest::print_schedule),
+        ["shortest", n] => shortest(n, |n| shortest::print(n, Goal::Passed)),
+        ["shortest", n, "schedule"] => shortest(n, |n| shortest::print_schedule(n, Goal::Passed)),
+        ["shortest", n, "lost"] => shortest(n, |n| shortest::print(n, Goal::Lost)),
+        ["shortest", n, "lost", "schedule"] => shortest(n, |n| shortest::print_schedule(n, Goal::Lost)),
         ["shortest", n, "old"] => shortest(n, overtaking::print),
         _ => usage(),
     }

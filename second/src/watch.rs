@@ -2,7 +2,7 @@
 //!
 //! A bundle is a few events of one processor, with nothing between them. The search of shortest.rs has bundles only.
 //! That keeps the least number of events: any schedule can be made into one of bundles that is not longer and has the
-//! same joins, entries and taken interrupts in the same order.
+//! same joins, entries, taken interrupts and comings to lost in the same order.
 //!
 //! - A processor's flag is read at rest and at poll only, and only by itself. A raise whose flag is cleared at rest
 //!   goes out together with that step, which stays at rest. A raise of a raised processor goes out, and so does one
@@ -12,16 +12,26 @@
 //! - A poll that takes no interrupt goes back to spin, and the step that led from spin to it has changed nothing else:
 //!   both go out. The step that led to a poll that takes one moves to right before the raise. Locked is 1 there, so
 //!   this step goes to poll there too.
-//! - A step that changes nothing goes out: await without a next.
+//! - A step that changes nothing goes out: await without a next, and every step at lost.
 //! - A step is quiet if it changes nothing but the processor's own place, and would do the same wherever it stood
 //!   before that processor's next event. It moves to right before that next event, or goes out if there is none. Quiet
 //!   are rest, inside and service, which have no test (rest has no flag to find); back where locked is not 2, and then
 //!   regain where it is not 3, for only the processor's own poll makes it 2, and only a park that finds 2 makes it 3;
-//!   and close where L is another, for only the processor's own swap makes L itself.
+//!   and close where L is another, for only the processor's own swap makes L itself. Peek and reread are not quiet: the
+//!   next that they find may be another later on.
 //!
 //! No other processor reads a place or a flag, so what moves or goes out changes nothing for the others.
 
 use crate::lock::*;
+
+/// What a run is to come to.
+#[derive(Clone, Copy, PartialEq, Eq)]
+pub enum Goal {
+    /// The watched one enters, after it was passed over.
+    Passed,
+    /// A processor comes to lost. For that nobody need be watched.
+    Lost,
+}
 
 /// A state between two bundles, with what has to be known of the run so far.
 #[derive(Clone, Copy)]
@@ -40,7 +50,7 @@ pub struct Move {
     pub processor: u8,
     pub events: &'static [u8],
     pub to: Spot,
-    /// Whether the watched one enters, after it was passed over.
+    /// Whether this is the goal.
     pub found: bool,
 }
 
@@ -61,6 +71,7 @@ fn bundle(lock: &Lock, p: u8) -> &'static [u8] {
         (CLOSE, _) if lock.tail == p => &[S],
         (CLOSE, _) if row.next == NONE => &[],
         (CLOSE, _) => &[S, S],
+        (LOST, _) => &[],
         _ => &[S],
     }
 }
@@ -73,7 +84,7 @@ impl Spot {
     }
 
     /// All that can come next.
-    pub fn moves(&self) -> Vec<Move> {
+    pub fn moves(&self, goal: Goal) -> Vec<Move> {
         let mut moves = Vec::new();
         for processor in 0..self.lock.n {
             let events = bundle(&self.lock, processor);
@@ -84,13 +95,16 @@ impl Spot {
             }
             let (to, entry) = self.after(processor, events);
             let ended = entry && processor == self.watched;
-            let found = ended && self.passed;
+            let found = match goal {
+                Goal::Passed => ended && self.passed,
+                Goal::Lost => to.lock.rows[processor as usize].place == LOST,
+            };
             // Whoever enters without having been passed over need not have been watched.
             if found || !ended {
                 moves.push(Move { processor, events, to, found });
             }
             // A join behind another is where a watch may begin.
-            if self.watched == NONE && self.joins(processor) && !entry {
+            if goal == Goal::Passed && self.watched == NONE && self.joins(processor) && !entry {
                 let to = Spot { watched: processor, ..to };
                 moves.push(Move { processor, events, to, found });
             }
