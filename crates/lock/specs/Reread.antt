@@ -111,7 +111,8 @@ abbrev pub LostChangesNothing : Type 0
 LostChangesNothing =
     (s : LockState) (p : ℕ) → sound s ≡ true → p < s .n → isLost s p ≡ true → happens s 1 p ≡ accepted s
 
--- A processor at 28 is at 28 after every further schedule: from any state of sixteen rows, sound or not.
+-- A processor at 28 is at 28 after every further schedule: from any state with its sixteen rows, as a value of the Rattle type always
+-- has them, sound or not, reached or handed in.
 abbrev pub LostStaysLost : Type 0
 LostStaysLost =
     (s : LockState) (calls : List Call) (p : ℕ)
@@ -119,7 +120,7 @@ LostStaysLost =
     → isLost s p ≡ true
     → isLost (run s calls) p ≡ true
 
--- It has the lock and never hands it on: from then on nobody enters.
+-- In a run it has the lock and never hands it on: from then on nobody enters.
 abbrev pub NobodyEntersOnceLost : Type 0
 NobodyEntersOnceLost =
     (e n : ℕ) (calls : List Call) (p : ℕ) (more : List Call)
