@@ -48,6 +48,13 @@ unmoved-run s (c ∷ cs) p whole h =
     let later = unmoved-run (after s c) cs p (rows-after s c whole) (none .1) in
     (later .0 ∙ now .0, cells-on (now .1) (later .1))
 
+-- a row at 22 after a take: nx is neither none nor succ
+abbrev Lifts : Row → Type 0
+Lifts r = (r .place ≡ 22) × (r .nx ≢ none) × (r .nx ≢ r .succ)
+
+lifts-on : {r q : Row} → q .place ≡ r .place → Cells r q → Lifts r → Lifts q
+lifts-on at cells l = (at ∙ l .0, λ z. l .1 (sym (cells .nx) ∙ z), λ z. l .2 (sym (cells .nx) ∙ z ∙ cells .succ))
+
 module _ (e n : ℕ) (ordered : isOrdered e ≡ true) (some : 1 ≤ n) (many : n ≤ processors) where
   inv : (calls : List Call) → Inv (reached e n calls) (ticketsOf (freshState e n) noTickets calls)
   inv calls =
@@ -59,11 +66,9 @@ module _ (e n : ℕ) (ordered : isOrdered e ≡ true) (some : 1 ≤ n) (many : n
   at-lift : SameAtLift e n
   at-lift calls p at = inv-at-lift (reached e n calls) _ p (inv calls) at
 
-  -- a successful take leads to 22, with an nx that is neither none nor succ
   take-leads :
       (before : List Call) (take : Call) (p : ℕ) → takes (reached e n before) take p ≡ true
-      → let r = row (reached e n before) p in
-      (row (after (reached e n before) take) p ≡ withPlace r 22) × (r .nx ≢ none) × (r .nx ≢ r .succ)
+      → Lifts (row (after (reached e n before) take) p)
   unfolding takes
   take-leads before take p h =
       let s = reached e n before in
@@ -78,24 +83,19 @@ module _ (e n : ℕ) (ordered : isOrdered e ≡ true) (some : 1 ≤ n) (many : n
       let w = inv-taken s _ p (inv before) (subst (λ q. q < length (s .rows)) own (there s take whole k))
       (eqb-true (r .place) 21 (and-right (stepsOf s take p) (eqb (r .place) 21) at))
       (and-right (stepsOf s take p && eqb (r .place) 21) parked h) in
-      (ap (λ t. row t p) (k .act ∙ ap (stepped s) own) ∙ w .0, w .1, w .2))
+      let led : row (after s take) p ≡ withPlace r 22 = ap (λ t. row t p) (k .act ∙ ap (stepped s) own) ∙ w .0 in
+      subst Lifts (sym led) (refl, w .1, w .2))
 
   once-taken : SameOnceTaken e n
   once-taken before take since p t =
-      let s = reached e n before in
-      let took = after s take in
-      let led = take-leads before take p (t .took) in
-      let whole = rows-after s take (Demand.rows-reached e n before) in
-      let still = unmoved-run took since p whole
-      (subst (λ x. stepsIn x since p ≡ 0) (Demand.run-last (freshState e n) before take) (t .stands)) in
-      let end : reached e n (before ++ take ∷ since) ≡ run took since =
-      Demand.run-middle (freshState e n) before take since in
-      let place : (row (run took since) p) .place ≡ 22 = still .0 ∙ ap (λ (r : Row). r .place) (led .0) in
-      let succ : (row (run took since) p) .succ ≡ (row s p) .succ = still .1 .succ ∙ ap (λ (r : Row). r .succ) (led .0) in
-      let nx : (row (run took since) p) .nx ≡ (row s p) .nx = still .1 .nx ∙ ap (λ (r : Row). r .nx) (led .0) in
-      at-lift (before ++ take ∷ since) p (ap (λ x. (row x p) .place) end ∙ place)
-      (λ z. led .1 (sym nx ∙ ap (λ x. (row x p) .nx) (sym end) ∙ z))
-      (λ z. led .2 (sym nx ∙ ap (λ x. (row x p) .nx) (sym end) ∙ z ∙ ap (λ x. (row x p) .succ) end ∙ succ))
+      let fresh = freshState e n in
+      let took = after (reached e n before) take in
+      let still = unmoved-run took since p (rows-after (reached e n before) take (Demand.rows-reached e n before))
+      (subst (λ x. stepsIn x since p ≡ 0) (Demand.run-last fresh before take) (t .stands)) in
+      let end : Lifts (row (reached e n (before ++ take ∷ since)) p) =
+      subst (λ x. Lifts (row x p)) (sym (Demand.run-middle fresh before take since))
+      (lifts-on (still .0) (still .1) (take-leads before take p (t .took))) in
+      at-lift (before ++ take ∷ since) p (end .0) (end .1) (end .2)
 
   second-read : SecondRead e n
   second-read = record { at-take = at-take; once-taken = once-taken; at-lift = at-lift }
