@@ -8,6 +8,7 @@ use mathlib.Core.Logic.{_≢_}
 use mathlib.Core.List.{List, [], _∷_, _++_}
 use lib.Dec.{eqb}
 use lib.ListN.{length}
+use Rattle.lock.specs.declared.Row.{Row}
 use Rattle.lock.specs.declared.LockState.{LockState}
 use Rattle.lock.specs.State.{processors, none, drawn, guarded, RP, row}
 use Rattle.lock.specs.Sound.{sound}
@@ -28,7 +29,7 @@ unfoldable pub takes : LockState → Call → ℕ → Bool
 takes s c p = stepsOf s c p && eqb ((row s p) .place) 21 && eqb ((row s ((row s p) .succ)) .locked) RP
 
 -- After the calls `before` p takes with success by the call `take`, and it does not step in the calls `since`: it stands where
--- that take led, at 22 in the guarded edition, and at 27 before its read in the drawn one.
+-- that take led, at 22 in the guarded edition (`leads` below), and at 27 before its read in the drawn one.
 pub record Taken (e n : ℕ) (before : List Call) (take : Call) (since : List Call) (p : ℕ) : Type 0 where
   pub took : takes (reached e n before) take p ≡ true
   pub stands : stepsIn (reached e n (before ++ take ∷ [])) since p ≡ 0
@@ -45,21 +46,31 @@ abbrev pub SameAtTake : ℕ → ℕ → Type 0
 SameAtTake e n =
     (calls : List Call) (p : ℕ) → (row (reached e n calls) p) .place ≡ 21 → FindsTheSame (reached e n calls) p
 
--- the same of place 22 without a word on how p came there: after a park that fails nx is succ, after a peek that finds none and
--- after a take that fails it is none, and otherwise p has taken
+-- A row at 22 after a take that succeeded, by its cells alone: after a park that fails nx is succ, after a peek that finds none and
+-- after a take that fails it is none.
+pub record AtLift (r : Row) : Type 0 where
+  pub place : r .place ≡ 22
+  pub some : r .nx ≢ none
+  pub other : r .nx ≢ r .succ
+
+-- whenever p stands at 22 so
 abbrev pub SameAtLift : ℕ → ℕ → Type 0
 SameAtLift e n =
-    (calls : List Call) (p : ℕ)
-    → (row (reached e n calls) p) .place ≡ 22
-    → (row (reached e n calls) p) .nx ≢ none
-    → (row (reached e n calls) p) .nx ≢ (row (reached e n calls) p) .succ
-    → FindsTheSame (reached e n calls) p
+    (calls : List Call) (p : ℕ) → AtLift (row (reached e n calls) p) → FindsTheSame (reached e n calls) p
+
+-- every successful take leads there
+abbrev pub TakeLeadsToLift : ℕ → ℕ → Type 0
+TakeLeadsToLift e n =
+    (before : List Call) (take : Call) (since : List Call) (p : ℕ)
+    → Taken e n before take since p
+    → AtLift (row (reached e n (before ++ take ∷ since)) p)
 
 -- "The guarded edition keeps its single read; prove that there a second read would find the same."
 pub record SecondRead (e n : ℕ) : Type 0 where
   pub at-take : SameAtTake e n
   pub once-taken : SameOnceTaken e n
   pub at-lift : SameAtLift e n
+  pub leads : TakeLeadsToLift e n
 
 abbrev pub SecondReadFindsTheSame : Type 0
 SecondReadFindsTheSame = (n : ℕ) → 1 ≤ n → n ≤ processors → SecondRead guarded n
@@ -90,7 +101,6 @@ pub record TakenMet (e n : ℕ) : Type 0 where
   pub since : List Call
   pub p : ℕ
   pub taken : Taken e n before take since p
-  pub unlifted : (row (reached e n (before ++ take ∷ since)) p) .place ≡ 22
   pub held : (row (reached e n (before ++ take ∷ since)) ((row (reached e n (before ++ take ∷ since)) p) .succ)) .place ≡ 1
 
 pub record SecondReadIsSharp : Type 0 where

@@ -22,7 +22,7 @@ use Rattle.lock.specs.Run.{Call, after, run, stepsOf, enters, isInside}
 use Rattle.lock.specs.Count.{countIn, stepsIn, allEntriesIn}
 use Rattle.lock.specs.Cases.{step, steps, raise}
 use Rattle.lock.specs.Claims.{reached}
-use Rattle.lock.specs.Reread.{takes, SameAtTake, SameAtLift, SameOnceTaken, SecondRead, SecondReadFindsTheSame, ReadsAnother, TakenMet, SecondReadIsSharp, lostBefore, lostSince, lostUnread, isLost, LostChangesNothing, LostStaysLost, NobodyEntersOnceLost, LockIsLost}
+use Rattle.lock.specs.Reread.{takes, SameAtTake, AtLift, SameAtLift, SameOnceTaken, TakeLeadsToLift, SecondRead, SecondReadFindsTheSame, ReadsAnother, TakenMet, SecondReadIsSharp, lostBefore, lostSince, lostUnread, isLost, LostChangesNothing, LostStaysLost, NobodyEntersOnceLost, LockIsLost}
 use Rattle.lock.proofs.Ground.Places.{lost-same}
 use Rattle.lock.proofs.Order.Tickets.{noTickets, isOrdered}
 use Rattle.lock.proofs.Order.Invariant.{Inv, inv-fresh, inv-after, inv-entry, inv-at-take, inv-at-lift, inv-taken}
@@ -48,12 +48,14 @@ unmoved-run s (c ∷ cs) p whole h =
     let later = unmoved-run (after s c) cs p (rows-after s c whole) (none .1) in
     (later .0 ∙ now .0, cells-on (now .1) (later .1))
 
--- a row at 22 after a take: nx is neither none nor succ
-abbrev Lifts : Row → Type 0
-Lifts r = (r .place ≡ 22) × (r .nx ≢ none) × (r .nx ≢ r .succ)
-
-lifts-on : {r q : Row} → q .place ≡ r .place → Cells r q → Lifts r → Lifts q
-lifts-on at cells l = (at ∙ l .0, λ z. l .1 (sym (cells .nx) ∙ z), λ z. l .2 (sym (cells .nx) ∙ z ∙ cells .succ))
+-- who stands at 22 after a take stays so with its place and its private cells
+lift-stays : {r q : Row} → q .place ≡ r .place → Cells r q → AtLift r → AtLift q
+lift-stays at cells l =
+    record {
+      place = at ∙ l .place;
+      some = λ z. l .some (sym (cells .nx) ∙ z);
+      other = λ z. l .other (sym (cells .nx) ∙ z ∙ cells .succ);
+    }
 
 module _ (e n : ℕ) (ordered : isOrdered e ≡ true) (some : 1 ≤ n) (many : n ≤ processors) where
   inv : (calls : List Call) → Inv (reached e n calls) (ticketsOf (freshState e n) noTickets calls)
@@ -64,11 +66,11 @@ module _ (e n : ℕ) (ordered : isOrdered e ≡ true) (some : 1 ≤ n) (many : n
   at-take calls p at = inv-at-take (reached e n calls) _ p (inv calls) at
 
   at-lift : SameAtLift e n
-  at-lift calls p at = inv-at-lift (reached e n calls) _ p (inv calls) at
+  at-lift calls p l = inv-at-lift (reached e n calls) _ p (inv calls) (l .place) (l .some) (l .other)
 
   take-leads :
       (before : List Call) (take : Call) (p : ℕ) → takes (reached e n before) take p ≡ true
-      → Lifts (row (after (reached e n before) take) p)
+      → AtLift (row (after (reached e n before) take) p)
   unfolding takes
   take-leads before take p h =
       let s = reached e n before in
@@ -84,21 +86,22 @@ module _ (e n : ℕ) (ordered : isOrdered e ≡ true) (some : 1 ≤ n) (many : n
       (eqb-true (r .place) 21 (and-right (stepsOf s take p) (eqb (r .place) 21) at))
       (and-right (stepsOf s take p && eqb (r .place) 21) parked h) in
       let led : row (after s take) p ≡ withPlace r 22 = ap (λ t. row t p) (k .act ∙ ap (stepped s) own) ∙ w .0 in
-      subst Lifts (sym led) (refl, w .1, w .2))
+      subst AtLift (sym led) (record { place = refl; some = w .1; other = w .2 }))
 
-  once-taken : SameOnceTaken e n
-  once-taken before take since p t =
+  leads : TakeLeadsToLift e n
+  leads before take since p t =
       let fresh = freshState e n in
       let took = after (reached e n before) take in
       let still = unmoved-run took since p (rows-after (reached e n before) take (Demand.rows-reached e n before))
       (subst (λ x. stepsIn x since p ≡ 0) (Demand.run-last fresh before take) (t .stands)) in
-      let end : Lifts (row (reached e n (before ++ take ∷ since)) p) =
-      subst (λ x. Lifts (row x p)) (sym (Demand.run-middle fresh before take since))
-      (lifts-on (still .0) (still .1) (take-leads before take p (t .took))) in
-      at-lift (before ++ take ∷ since) p (end .0) (end .1) (end .2)
+      subst (λ x. AtLift (row x p)) (sym (Demand.run-middle fresh before take since))
+      (lift-stays (still .0) (still .1) (take-leads before take p (t .took)))
+
+  once-taken : SameOnceTaken e n
+  once-taken before take since p t = at-lift (before ++ take ∷ since) p (leads before take since p t)
 
   second-read : SecondRead e n
-  second-read = record { at-take = at-take; once-taken = once-taken; at-lift = at-lift }
+  second-read = record { at-take = at-take; once-taken = once-taken; at-lift = at-lift; leads = leads }
 
 pub second-read-finds-the-same : SecondReadFindsTheSame
 second-read-finds-the-same n some many = second-read _ n refl some many
@@ -118,7 +121,6 @@ met =
       since = steps 1 4;
       p = 0;
       taken = record { took = refl; stands = refl };
-      unlifted = refl;
       held = refl;
     }
 
