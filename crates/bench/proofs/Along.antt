@@ -9,7 +9,7 @@ use mathlib.Core.Path.{_≡_, refl, sym, ap, _∙_}
 use mathlib.Core.Logic.{_↔_}
 use mathlib.Core.Bool.{Bool, true, false, cond, _&&_, true≢false}
 use mathlib.Core.List.{List, [], _∷_, _++_, append-assoc, append-nil}
-use lib.ListN.{length, take, drop, length-drop}
+use lib.ListN.{length, drop, length-drop}
 use lib.Dec.{eqb}
 use borrow.Author.Tests.{eq-eqb}
 use Rattle.choice.proofs.Tests.{and-left, and-right}
@@ -18,8 +18,9 @@ use Rattle.lock.specs.State.{row}
 use Rattle.lock.specs.Event.{happens, isStep}
 use Rattle.lock.specs.Run.{Call, after, run, stepsOf, enters}
 use Rattle.frame.specs.Reading.{reads, restOf}
+use Rattle.frame.specs.Writing.{headerLine}
 use Rattle.bench.specs.Log.{counted, marksOf, marks, shown, logOf}
-use Rattle.bench.specs.Bridge.{callOf, callsFrom, callsOf, rowsOf, areRead, areAccepted, firstState, firstRefusal, lineRefusal, heardFrom, ending, Accepted, EntryMark}
+use Rattle.bench.specs.Bridge.{callOf, callsFrom, callsOf, rowsOf, areRead, areAccepted, editionOf, processorsOf, firstState, firstRefusal, lineRefusal, heardFrom, ending, Accepted, EntryMark}
 use Rattle.bench.proofs.Hearing.{behind, log-is-run}
 
 -- where every line is read and every call accepted, all of them are heard
@@ -51,7 +52,9 @@ calls-whole (suc fuel) (b ∷ text) h =
     ∙ calls-whole fuel (restOf (b ∷ text)) (omega (arith, length-drop 9 (b ∷ text)))
 
 pub accepted-is-run : (text : List ℕ) → Accepted text →
-    logOf text ≡ take 9 text ++ (rowsOf (firstState text) (callsOf text) ++ counted (length (callsOf text)))
+    logOf text
+    ≡ headerLine (editionOf text) (processorsOf text)
+    ++ (rowsOf (firstState text) (callsOf text) ++ counted (length (callsOf text)))
 unfolding lineRefusal
 accepted-is-run text h =
     let s = firstState text in
@@ -59,7 +62,7 @@ accepted-is-run text h =
     let whole = calls-whole (length text) (restOf text) (omega (arith, length-drop 9 text)) in
     let first : firstRefusal text ≡ 0 = simp (eq-eqb (reads text true .refusal) 0 (h .line-is)) (h .state-is) in
     log-is-run text .line-1-accepted (h .length-is) first
-    ∙ ap (λ (l : List ℕ). take 9 text ++ l)
+    ∙ ap (λ (l : List ℕ). headerLine (editionOf text) (processorsOf text) ++ l)
     (ap
     (λ (cs : List Call).
     rowsOf s cs ++ ending (lineRefusal (run s cs) (drop (9 * length cs) (restOf text))) (length cs)) same

@@ -4,22 +4,23 @@
 --     refusal-room     there is room for the refusal of line 1
 --     open-refused     the refusal alone is the log of a refused line 1
 --     later-room       after line 1 there is room for the later lines
---     begin-follows    line 1 as read, and the later lines behind it, are `begun`
+--     begin-follows    line 1 of its numbers, and the later lines behind it, are `begun`
 --     begin-refuses    the refusal alone is `begun`
 -- Assumes nothing.
 use Prim.Native.Nat.{ℕ, _+_, _-_, _≤_}
 use native.Mathlib.Omega.{arith}
 use mathlib.Core.Path.{_≡_, sym, ap, _∙_}
 use mathlib.Core.Bool.{true, false}
-use mathlib.Core.List.{List, [], _∷_, _++_, append-assoc}
-use lib.ListN.{length, take, drop, length-append, length-drop, length-take}
+use mathlib.Core.List.{List, _++_, append-assoc}
+use lib.ListN.{length, take, drop, length-append, length-drop}
 use lib.Seq.{drop-drop, take-at, drop-at}
 use lib.Dec.{eqb}
 use borrow.Author.Tests.{le-leb}
 use borrow.Rule.Slice.PartMut.{midOf, putMid}
 use Rattle.lock.specs.declared.Answer.{Answer}
+use Rattle.lock.specs.Event.{fresh}
 use Rattle.frame.specs.Reading.{refusedBy, reads, restOf}
-use Rattle.frame.specs.Writing.{lineOf, leaves}
+use Rattle.frame.specs.Writing.{leaves, headerLine}
 use Rattle.frame.proofs.Proved.{lengths-are-known}
 use Rattle.bench.specs.Log.{refusedAt, logFrom, begun}
 use Rattle.bench.specs.Steps.{filled, laid, laterLog, openedLog, linesRoom}
@@ -47,38 +48,30 @@ pub open-refused : (text out : List ℕ) (n : ℕ) → reads text true ≡ refus
 open-refused text out n e size f last g =
     rw (open-refuses text n e) (omega arith, g ∙ laid-first (refusedAt n 1) out)
 
-module _ (text out : List ℕ) (a : Answer) (room : linesRoom text ≤ length out) where
+module _ (text out : List ℕ) (room : linesRoom text ≤ length out) (edition n : ℕ) (a : Answer) (made : a ≡ fresh edition n) where
+  abbrev line : List ℕ
+  line = headerLine edition n
+
   pub begin-refuses : eqb (a .refusal) 0 ≡ false → (size : ℕ) → size ≡ 0 + length (refusedAt (a .refusal) 1) →
       (last : List ℕ) → last ≡ laid 0 (refusedAt (a .refusal) 1) out →
-      (size ≡ length (begun text a)) × (last ≡ filled (begun text a) out)
+      (size ≡ length (begun text edition n)) × (last ≡ filled (begun text edition n) out)
   unfolding begun
   begin-refuses no-state size f last e =
-      simp no-state (omega arith, e ∙ laid-first (refusedAt (a .refusal) 1) out)
+      simp (← made, no-state) (omega arith, e ∙ laid-first (refusedAt (a .refusal) 1) out)
 
-  module _ (kind edition n : ℕ) (as-read : take 9 text ≡ lineOf (kind ∷ edition ∷ n ∷ [])) (front : List ℕ)
-      (e : front ≡ leaves (lineOf (kind ∷ edition ∷ n ∷ [])) out) where
-    nine : length (lineOf (kind ∷ edition ∷ n ∷ [])) ≡ 9
-    nine = lengths-are-known .any (kind ∷ edition ∷ n ∷ [])
+  module _ (whole : 9 ≤ length text) (front : List ℕ) (e : front ≡ leaves line out) where
+    nine : length line ≡ 9
+    nine = lengths-are-known .header edition n
 
-    whole : 9 ≤ length text
-    whole = omega (arith, length-take 9 text, ap length as-read, nine)
-
-    front-is : front ≡ lineOf (kind ∷ edition ∷ n ∷ []) ++ drop 9 out
-    front-is =
-        let line = lineOf (kind ∷ edition ∷ n ∷ []) in
-        e ∙ leaves-fills line out (omega (arith, nine, whole)) ∙ ap (λ (k : ℕ). line ++ drop k out) nine
+    front-is : front ≡ line ++ drop 9 out
+    front-is = e ∙ leaves-fills line out (omega (arith, nine, whole)) ∙ ap (λ (k : ℕ). line ++ drop k out) nine
 
     behind : midOf 9 (length front - 9) front ≡ drop 9 out
-    behind =
-        part-is 9 front
-        ∙ ap (drop 9) front-is
-        ∙ drop-at (lineOf (kind ∷ edition ∷ n ∷ [])) (drop 9 out) 9 nine
+    behind = part-is 9 front ∙ ap (drop 9) front-is ∙ drop-at line (drop 9 out) 9 nine
 
     pub front-long : length front ≡ length out
     front-long =
-        ap length front-is
-        ∙ length-append (lineOf (kind ∷ edition ∷ n ∷ [])) (drop 9 out)
-        ∙ omega (arith, nine, whole, length-drop 9 out)
+        ap length front-is ∙ length-append line (drop 9 out) ∙ omega (arith, nine, whole, length-drop 9 out)
 
     pub later-room : (later : List ℕ) → later ≡ restOf text →
         linesRoom later ≤ length (midOf 9 (length front - 9) front)
@@ -87,29 +80,22 @@ module _ (text out : List ℕ) (a : Answer) (room : linesRoom text ≤ length ou
     module _ (state : eqb (a .refusal) 0 ≡ true) (later : List ℕ) (f : later ≡ restOf text) (size : ℕ)
         (g : size ≡ length (laterLog (a .state) later)) (last : List ℕ)
         (h : last ≡ filled (laterLog (a .state) later) (midOf 9 (length front - 9) front)) where
-      begun-is : begun text a ≡ lineOf (kind ∷ edition ∷ n ∷ []) ++ laterLog (a .state) later
+      begun-is : begun text edition n ≡ line ++ laterLog (a .state) later
       unfolding begun
       begun-is =
-          simp (state, as-read)
-          (ap (λ (l : List ℕ). lineOf (kind ∷ edition ∷ n ∷ []) ++ l)
+          simp (← made, state)
+          (ap (λ (l : List ℕ). line ++ l)
           (fuel-same (length text) (length (restOf text)) (a .state) 0 (restOf text)
           (omega (arith, length-drop 9 text)) (omega arith)
           ∙ ap (λ (l : List ℕ). logFrom (length l) (a .state) 0 l) (sym f)))
 
-      begun-long : 9 + size ≡ length (begun text a)
+      begun-long : 9 + size ≡ length (begun text edition n)
       begun-long =
-          omega (
-            arith,
-            g,
-            nine,
-            ap length begun-is,
-            length-append (lineOf (kind ∷ edition ∷ n ∷ [])) (laterLog (a .state) later),
-          )
+          omega (arith, g, nine, ap length begun-is, length-append line (laterLog (a .state) later))
 
-      pub begin-follows : (9 + size ≡ length (begun text a)) ×
-          (putMid 9 (length front - 9) front last ≡ filled (begun text a) out)
+      pub begin-follows : (9 + size ≡ length (begun text edition n)) ×
+          (putMid 9 (length front - 9) front last ≡ filled (begun text edition n) out)
       begin-follows =
-          let line = lineOf (kind ∷ edition ∷ n ∷ []) in
           let log = laterLog (a .state) later in (
             begun-long,
             put-whole 9 front last
@@ -118,5 +104,5 @@ module _ (text out : List ℕ) (a : Answer) (room : linesRoom text ≤ length ou
                 ∙ ap (λ (l : List ℕ). line ++ (log ++ l)) (drop-drop (length log) 9 out)
                 ∙ sym (append-assoc line log (drop (9 + length log) out))
                 ∙ ap (λ (l : List ℕ). l ++ drop (9 + length log) out) (sym begun-is)
-                ∙ ap (λ (k : ℕ). begun text a ++ drop k out) (ap (λ (k : ℕ). 9 + k) (sym g) ∙ begun-long),
+                ∙ ap (λ (k : ℕ). begun text edition n ++ drop k out) (ap (λ (k : ℕ). 9 + k) (sym g) ∙ begun-long),
           )

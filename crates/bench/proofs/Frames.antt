@@ -12,7 +12,7 @@ use native.Mathlib.Omega.{arith}
 use borrow.Author.Tests.{ne-eqb}
 use Rattle.lock.specs.declared.LockState.{LockState}
 use Rattle.lock.specs.declared.Answer.{Answer}
-use Rattle.lock.specs.Event.{fresh, happens}
+use Rattle.lock.specs.Event.{happens}
 use Rattle.frame.specs.Pairs.{pairsFrom}
 use Rattle.frame.specs.Reading.{Told, refusedBy, kindOf, reads}
 use Rattle.frame.proofs.Refusals.{by-order, is-accepted}
@@ -55,7 +55,7 @@ module _ (s : LockState) (line : ℕ) (text : List ℕ) where
 
 module _ (text : List ℕ) where
   pub open-begins : (kind edition n check : ℕ) → reads text true ≡ framed kind edition n check →
-      openedLog text ≡ begun text (fresh edition n)
+      openedLog text ≡ begun text edition n
   unfolding opened
   open-begins kind edition n check e = ap (opened text) e
 

@@ -11,7 +11,7 @@ use mathlib.Core.Path.{_≡_, refl, sym, ap, _∙_, subst}
 use mathlib.Core.Logic.{_≢_, ⊎-elim}
 use mathlib.Core.Bool.{Bool, true, false}
 use mathlib.Core.List.{List, [], _∷_, _++_, append-assoc, append-nil}
-use lib.ListN.{length, take, drop, length-append, length-drop}
+use lib.ListN.{length, drop, length-append, length-drop}
 use lib.Seq.{drop-drop}
 use lib.Dec.{eqb}
 use borrow.Author.Tests.{eq-eqb, ne-eqb, lt-ltb, le-ltb}
@@ -23,6 +23,7 @@ use Rattle.lock.specs.Run.{Call, after, run}
 use Rattle.lock.specs.Claims.{made, IsRun}
 use Rattle.lock.proofs.Roof.Callers.{calls-are-a-run}
 use Rattle.frame.specs.Reading.{reads, restOf}
+use Rattle.frame.specs.Writing.{headerLine}
 use Rattle.bench.specs.Log.{longest, refusedAt, counted, shown, stopped, answered, followed, turnOf, logFrom, begun, opened, logOf}
 use Rattle.bench.specs.Bridge.{callOf, rowsOf, areAccepted, editionOf, processorsOf, firstState, firstRefusal, lineRefusal, heardFrom, heardOf, unheardOf, refusalOf, ending, LogIsARun}
 use Rattle.bench.proofs.Sizes.{cases, shown-size}
@@ -222,7 +223,7 @@ module _ (text : List ℕ) where
 
   accepted-first : length text ≤ longest → firstRefusal text ≡ 0 →
       logOf text
-      ≡ take 9 text
+      ≡ headerLine (editionOf text) (processorsOf text)
       ++ (rowsOf (firstState text) (heardOf text) ++ ending (refusalOf text) (length (heardOf text)))
   unfolding logOf opened begun
   accepted-first low h =
@@ -233,7 +234,7 @@ module _ (text : List ℕ) where
         eq-eqb (made-1 .refusal) 0 (first-made h),
         first-state h,
       )
-      (ap (λ (l : List ℕ). take 9 text ++ l)
+      (ap (λ (l : List ℕ). headerLine (editionOf text) (processorsOf text) ++ l)
       (later-heard (length text) (firstState text) 0 (restOf text) (omega (arith, length-drop 9 text))
       ∙ ap (λ (m : ℕ). rowsOf (firstState text) (heardOf text) ++ ending (refusalOf text) m) count))
 

@@ -8,13 +8,14 @@ use mathlib.Core.Logic.{⊎-elim}
 use mathlib.Core.Path.{_≡_}
 use mathlib.Core.Bool.{true, false}
 use mathlib.Core.List.{List, [], _∷_}
-use lib.ListN.{length, take, length-append, length-drop, length-take}
+use lib.ListN.{length, length-append, length-drop}
 use lib.Dec.{eqb, ltb}
 use borrow.Author.Tests.{eqb-true}
 use Rattle.lock.specs.declared.LockState.{LockState}
-use Rattle.lock.specs.declared.Answer.{Answer}
 use Rattle.lock.specs.Event.{fresh}
 use Rattle.frame.specs.Reading.{reads, restOf}
+use Rattle.frame.specs.Writing.{headerLine}
+use Rattle.frame.proofs.Proved.{lengths-are-known}
 use Rattle.bench.specs.Log.{longest, second, third, turnOf, logFrom, begun, opened, logOf}
 use Rattle.bench.specs.Lent.{roomFor}
 use Rattle.bench.specs.Steps.{linesRoom}
@@ -35,17 +36,18 @@ later-fits (suc fuel) s accepted (b ∷ text) =
     (λ (g : Stops t). simp (g .0) (omega (arith, length-append (t .written) [])))
     (turn-size s (accepted + 2) (b ∷ text))
 
-begun-fits : (text : List ℕ) (a : Answer) → 9 ≤ length text → length (begun text a) ≤ linesRoom text
+begun-fits : (text : List ℕ) (edition n : ℕ) → 9 ≤ length text → length (begun text edition n) ≤ linesRoom text
 unfolding begun
-begun-fits text a h =
+begun-fits text edition n h =
+    let a = fresh edition n in
     let more = logFrom (length text) (a .state) 0 (restOf text) in
     ⊎-elim
     (λ (e : eqb (a .refusal) 0 ≡ true).
     simp e
     (omega (
       arith,
-      length-append (take 9 text) more,
-      length-take 9 text,
+      length-append (headerLine edition n) more,
+      lengths-are-known .header edition n,
       length-drop 9 text,
       later-fits (length text) (a .state) 0 (restOf text),
     )))
@@ -62,7 +64,7 @@ log-fits text =
     simp e
     (⊎-elim
     (λ (f : eqb (t .refusal) 0 ≡ true). simp f
-    (begun-fits text (fresh (second t) (third t)) (whole-nine text true (eqb-true (t .refusal) 0 f))))
+    (begun-fits text (second t) (third t) (whole-nine text true (eqb-true (t .refusal) 0 f))))
     (λ (f : eqb (t .refusal) 0 ≡ false). simp f (omega (arith, refusal-size (t .refusal) 1)))
     (cases (eqb (t .refusal) 0))))
     (cases (ltb longest (length text)))

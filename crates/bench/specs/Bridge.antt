@@ -11,7 +11,7 @@ use mathlib.Core.Path.{_≡_}
 use mathlib.Core.Logic.{_↔_, _≢_}
 use mathlib.Core.Bool.{Bool, true, false, cond, _&&_}
 use mathlib.Core.List.{List, [], _∷_, _++_}
-use lib.ListN.{length, take, drop}
+use lib.ListN.{length, drop}
 use lib.Dec.{eqb}
 use Rattle.lock.specs.declared.LockState.{LockState}
 use Rattle.lock.specs.State.{freshState, row}
@@ -19,6 +19,7 @@ use Rattle.lock.specs.Event.{fresh, happens}
 use Rattle.lock.specs.Run.{Call, after, run, enters}
 use Rattle.lock.specs.Claims.{AnyEdition}
 use Rattle.frame.specs.Reading.{reads, restOf}
+use Rattle.frame.specs.Writing.{headerLine}
 use Rattle.bench.specs.Log.{longest, refusedAt, counted, marks, shown, second, third, logOf}
 
 -- the call that the later line at the beginning of the text asks for
@@ -91,10 +92,10 @@ pub record LogIsARun (text : List ℕ) : Type 0 where
   pub too-long : longest < length text → logOf text ≡ refusedAt 1 0
   -- "If line 1 is refused, 05 is the whole output."
   pub line-1-refused : length text ≤ longest → firstRefusal text ≢ 0 → logOf text ≡ refusedAt (firstRefusal text) 1
-  -- otherwise "the 01 line as read, the 03 lines, the 04 line. At the first refusal it prints 05 and stops."
+  -- otherwise the 01 line of the numbers read, "the 03 lines, the 04 line. At the first refusal it prints 05 and stops."
   pub line-1-accepted : length text ≤ longest → firstRefusal text ≡ 0 →
       logOf text
-      ≡ take 9 text
+      ≡ headerLine (editionOf text) (processorsOf text)
       ++ (rowsOf (firstState text) (heardOf text) ++ ending (refusalOf text) (length (heardOf text)))
   -- then edition and N are in range, so that the claims on runs speak of this one
   pub in-range : firstRefusal text ≡ 0 → AnyEdition (editionOf text) (processorsOf text)
@@ -134,7 +135,9 @@ pub record Accepted (text : List ℕ) : Type 0 where
 abbrev pub AcceptedLogIsARun : Type 0
 AcceptedLogIsARun =
     (text : List ℕ) → Accepted text →
-    logOf text ≡ take 9 text ++ (rowsOf (firstState text) (callsOf text) ++ counted (length (callsOf text)))
+    logOf text
+    ≡ headerLine (editionOf text) (processorsOf text)
+    ++ (rowsOf (firstState text) (callsOf text) ++ counted (length (callsOf text)))
 
 abbrev pub RowsFollowTheRun : Type 0
 RowsFollowTheRun =

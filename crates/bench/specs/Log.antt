@@ -4,7 +4,7 @@
 use Prim.Native.Nat.{ℕ, zero, suc, _+_, _/_, _%_}
 use mathlib.Core.Bool.{Bool, true, false, cond, _&&_}
 use mathlib.Core.List.{List, [], _∷_, _++_}
-use lib.ListN.{length, getD, take}
+use lib.ListN.{length, getD}
 use lib.Dec.{eqb, ltb}
 use Rattle.lock.specs.declared.Row.{Row}
 use Rattle.lock.specs.declared.LockState.{LockState}
@@ -12,7 +12,7 @@ use Rattle.lock.specs.declared.Answer.{Answer}
 use Rattle.lock.specs.State.{row}
 use Rattle.lock.specs.Event.{fresh, happens, isStep}
 use Rattle.frame.specs.Reading.{Told, reads, restOf}
-use Rattle.frame.specs.Writing.{rowLine, countLine, refusalLine}
+use Rattle.frame.specs.Writing.{headerLine, rowLine, countLine, refusalLine}
 
 -- "A schedule is at most 54,009 bytes (6,001 lines)"
 abbrev pub longest : ℕ
@@ -92,15 +92,16 @@ logFrom (suc fuel) s accepted (b ∷ text) =
     (logFrom fuel ((turnOf s (accepted + 2) (b ∷ text)) .next) (suc accepted) (restOf (b ∷ text)))
     []
 
--- line 1 as the lock answers it: "the 01 line as read", then the later lines; "If line 1 is refused, 05 is the whole
--- output"
-unfoldable pub begun : List ℕ → Answer → List ℕ
-begun text a =
-    cond (eqb (a .refusal) 0) (take 9 text ++ logFrom (length text) (a .state) 0 (restOf text))
+-- line 1 as the lock answers its numbers: request [3]'s "the 01 line as the writer gives it", then the later lines; "If
+-- line 1 is refused, 05 is the whole output"
+unfoldable pub begun : List ℕ → ℕ → ℕ → List ℕ
+begun text edition n =
+    let a = fresh edition n in
+    cond (eqb (a .refusal) 0) (headerLine edition n ++ logFrom (length text) (a .state) 0 (restOf text))
     (refusedAt (a .refusal) 1)
 
 unfoldable pub opened : List ℕ → Told → List ℕ
-opened text t = cond (eqb (t .refusal) 0) (begun text (fresh (second t) (third t))) (refusedAt (t .refusal) 1)
+opened text t = cond (eqb (t .refusal) 0) (begun text (second t) (third t)) (refusedAt (t .refusal) 1)
 
 -- "1 first": the log of a schedule
 unfoldable pub logOf : List ℕ → List ℕ

@@ -5,11 +5,8 @@ use crate::turns;
 use frame::Line;
 use lock::LockState;
 ghost use mathlib.Core.Path.{_≡_};
-ghost use mathlib.Core.List.{[], _∷_};
 ghost use Prim.Native.Nat.{_≤_};
-ghost use lib.ListN.{length, take};
-ghost use Rattle.lock.specs.Event.{fresh};
-ghost use Rattle.frame.specs.Writing.{lineOf};
+ghost use lib.ListN.{length};
 ghost use Rattle.bench.specs.Log.{begun};
 ghost use Rattle.bench.specs.Lent.{roomFor, logged, left, Counts};
 ghost use Rattle.bench.specs.Steps.{filled, openedLog, linesRoom};
@@ -22,19 +19,19 @@ const TOO_LONG: u8 = 1;
 
 const NO_ROOM: u8 = 10;
 
-// Line 1 as read, then the later lines; or the refusal of line 1 alone.
-pub(crate) fn begin(out: &mut [u8], schedule: &[u8], kind: u8, edition: u8, n: u8) -> usize
+// Line 1 of these numbers, in upper case whatever it was read in, then the later lines; or the refusal of line 1 alone.
+pub(crate) fn begin(out: &mut [u8], schedule: &[u8], edition: u8, n: u8) -> usize
     requires { ⌜ linesRoom (now schedule) ≤ length (now out) ⌝ }
-    requires { ⌜ take 9 (now schedule) ≡ lineOf (kind ∷ edition ∷ n ∷ []) ⌝ }
-    ensures { λ r. ⌜ r ≡ length (begun (now (schedule .entry)) (fresh edition n)) ⌝ }
-    ensures { λ _. ⌜ now (out .exit) ≡ filled (begun (now (schedule .entry)) (fresh edition n)) (now (out .entry)) ⌝ }
+    requires { ⌜ 9 ≤ length (now schedule) ⌝ }
+    ensures { λ r. ⌜ r ≡ length (begun (now (schedule .entry)) edition n) ⌝ }
+    ensures { λ _. ⌜ now (out .exit) ≡ filled (begun (now (schedule .entry)) edition n) (now (out .entry)) ⌝ }
 {
     let fresh = LockState::fresh(edition, n);
     let refusal = fresh.refusal;
     let accepted = refusal == 0;
     if accepted {
         let state = fresh.state;
-        frame::write_frame(out, kind, edition, n);
+        frame::write_header(out, edition, n);
         let later = frame::rest(schedule);
         let length = turns::follow(&mut out[lines::FRAME..], state, later);
         return lines::FRAME + length;
@@ -49,7 +46,7 @@ pub(crate) fn open(out: &mut [u8], schedule: &[u8]) -> usize
     ensures { λ _. ⌜ now (out .exit) ≡ filled (openedLog (now (schedule .entry))) (now (out .entry)) ⌝ }
 {
     match frame::read(schedule, true) {
-        Line::Frame(kind, edition, n, _) => begin(out, schedule, kind, edition, n),
+        Line::Frame(_, edition, n, _) => begin(out, schedule, edition, n),
         Line::Refused(refusal) => lines::write_refused_at(out, 0, refusal, 1),
     }
 }

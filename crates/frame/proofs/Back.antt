@@ -1,6 +1,6 @@
 -- From values to a line and back, and from a line to values and back, for lines of any number of pairs.
 --     line-is-read      what is written of byte values is read as those values and their check, whatever follows it
---     line-is-written   a line that is whole, of digits and of sum 0 is what is written of its pairs but the last
+--     line-is-written   a line that is whole, of digits and of sum 0 is, raised, what is written of its pairs but the last
 -- Assumes nothing.
 use Prim.Native.Nat.{ℕ, suc, _+_, _*_, _<_, _≤_}
 use native.Mathlib.Numerals.{add-one}
@@ -11,21 +11,15 @@ use mathlib.Core.List.{List, [], _∷_, _++_, append-assoc}
 use lib.ListN.{length, take, length-append}
 use lib.Seq.{take-suc, getD-at}
 use borrow.Author.Tests.{le-ltb}
+use Rattle.frame.specs.Case.{upperCase}
 use Rattle.frame.specs.Pairs.{lineFeed, byteAt, pairAt, pairsFrom, sumOf, checkOf}
 use Rattle.frame.specs.Reading.{isTorn, areDigits, readAs, bytesOf}
-use Rattle.frame.specs.Writing.{digitsOf, lineOf}
+use Rattle.frame.specs.Writing.{Bytes, digitsOf, lineOf}
 use Rattle.frame.proofs.Digits.{pair-below, pair-of-digits}
 use Rattle.frame.proofs.Sums.{sum-with-check, check-is-only}
-use Rattle.frame.proofs.Lines.{Bytes, digit-within, pairs-last, digits-length, digits-are-digits, pairs-of-digits, digits-of-pairs}
+use Rattle.frame.proofs.Lines.{with-check, digit-within, pairs-last, digits-length, digits-are-digits, pairs-of-digits, digits-of-pairs}
+use Rattle.frame.proofs.Case.{upper-feed}
 use Rattle.frame.proofs.Refusals.{whole-line, is-accepted}
-
-bytes-last : (vs : List ℕ) (v : ℕ) → Bytes vs → v < 256 → Bytes (vs ++ (v ∷ []))
-bytes-last [] v h l = (l, tt)
-bytes-last (u ∷ us) v h l = (h .0, bytes-last us v (h .1) l)
-
-check-below : (vs : List ℕ) → checkOf vs < 256
-unfolding checkOf
-check-below vs = omega arith
 
 -- the digits of values, a line feed and anything: it is whole
 is-whole : (vs after : List ℕ) → isTorn (length vs) (digitsOf vs ++ (lineFeed ∷ after)) ≡ false
@@ -49,7 +43,7 @@ module _ (kind : ℕ) (vs after : List ℕ) (h : Bytes (kind ∷ vs)) where
   line-is-read =
       let all = kind ∷ vs ++ (checkOf (kind ∷ vs) ∷ []) in
       let text = digitsOf all ++ (lineFeed ∷ after) in
-      let bytes = bytes-last (kind ∷ vs) (checkOf (kind ∷ vs)) h (check-below (kind ∷ vs)) in
+      let bytes = with-check (kind ∷ vs) h in
       let same : pairsFrom 0 (length all) text ≡ all = pairs-of-digits all (lineFeed ∷ after) bytes in
       ap (λ (t : List ℕ). readAs (length all) kind t) (append-assoc (digitsOf all) (lineFeed ∷ []) after)
       ∙ is-accepted (length all) kind text
@@ -67,18 +61,21 @@ pair-is-byte k text d =
 
 pub line-is-written : (k : ℕ) (text : List ℕ) →
     isTorn (suc k) text ≡ false → areDigits (suc k) text ≡ true → sumOf (pairsFrom 0 (suc k) text) ≡ 0 →
-    take (2 * suc k + 1) text ≡ lineOf (pairsFrom 0 k text)
+    upperCase (take (2 * suc k + 1) text) ≡ lineOf (pairsFrom 0 k text)
 unfolding lineOf
 line-is-written k text whole digits summed =
     let vs = pairsFrom 0 k text in
     let line = whole-line (suc k) text whole in
     let is-check : pairAt text k ≡ checkOf vs =
     check-is-only vs (pairAt text k) (pair-is-byte k text digits) (ap sumOf (sym (pairs-last k text)) ∙ summed) in
-    let all : digitsOf (vs ++ (checkOf vs ∷ [])) ≡ take (2 * suc k) text =
+    let all : digitsOf (vs ++ (checkOf vs ∷ [])) ≡ upperCase (take (2 * suc k) text) =
     ap (λ (n : ℕ). digitsOf (vs ++ (n ∷ []))) (sym is-check)
     ∙ ap digitsOf (sym (pairs-last k text))
     ∙ digits-of-pairs (suc k) text (omega arith) (digit-within (suc k) text digits) in
+    let split : take (2 * suc k + 1) text ≡ take (2 * suc k) text ++ (lineFeed ∷ []) =
     ap (λ (n : ℕ). take n text) (add-one (2 * suc k))
     ∙ take-suc text (2 * suc k) 0 (omega arith)
-    ∙ ap (λ (n : ℕ). take (2 * suc k) text ++ (n ∷ [])) (line .1)
+    ∙ ap (λ (n : ℕ). take (2 * suc k) text ++ (n ∷ [])) (line .1) in
+    ap upperCase split
+    ∙ upper-feed (take (2 * suc k) text)
     ∙ ap (λ (l : List ℕ). l ++ (lineFeed ∷ [])) (sym all)

@@ -2,6 +2,7 @@
 pub mod Digits
 pub mod Sums
 pub mod Lines
+pub mod Case
 pub mod Buffers
 pub mod Pass
 pub mod Refusals

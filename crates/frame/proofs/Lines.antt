@@ -1,4 +1,5 @@
 -- Lines of any number of pairs: what is written of values and what is read of a text.
+--     with-check          byte values and their check are byte values
 --     digit-within        where a line's bytes are digits, each is
 --     pairs-last          one pair more is read at the end
 --     pairs-length        as many pairs are read as are asked for
@@ -8,7 +9,7 @@
 --     line-length         a line has two bytes for each value, two for the check and the line feed
 --     digits-are-digits   the digits of byte values are digits
 --     pairs-of-digits     and are read as those values
---     digits-of-pairs     the digits of what is read of digits are those digits
+--     digits-of-pairs     the digits of what is read of digits are those digits, raised
 -- Assumes nothing.
 use Prim.Native.Nat.{ℕ, zero, suc, _+_, _*_, _/_, _%_, _<_, _≤_}
 use native.Mathlib.Omega.{arith}
@@ -18,15 +19,19 @@ use mathlib.Core.Bool.{true}
 use mathlib.Core.List.{List, [], _∷_, _++_}
 use lib.ListN.{length, getD, take, length-append}
 use Rattle.choice.proofs.Numbers.{every-at, every-from}
-use Rattle.frame.specs.Pairs.{isDigit, digitOf, valueOf, byteAt, pairAt, pairsFrom}
+use Rattle.frame.specs.Case.{upperCase}
+use Rattle.frame.specs.Pairs.{isDigit, digitOf, valueOf, byteAt, pairAt, pairsFrom, checkOf}
 use Rattle.frame.specs.Reading.{areDigits}
-use Rattle.frame.specs.Writing.{digitsOf, lineOf}
+use Rattle.frame.specs.Writing.{Bytes, digitsOf, lineOf}
 use Rattle.frame.proofs.Digits.{digit-is-digit, pair-of-digits, digits-of-pair}
 
--- every value of the list is a byte
-abbrev pub Bytes : List ℕ → Type 0
-Bytes [] = Unit {0}
-Bytes (v ∷ vs) = (v < 256) × Bytes vs
+bytes-last : (vs : List ℕ) (v : ℕ) → Bytes vs → v < 256 → Bytes (vs ++ (v ∷ []))
+bytes-last [] v h l = (l, tt)
+bytes-last (u ∷ us) v h l = (h .0, bytes-last us v (h .1) l)
+
+pub with-check : (vs : List ℕ) → Bytes vs → Bytes (vs ++ (checkOf vs ∷ []))
+unfolding checkOf
+with-check vs h = bytes-last vs (checkOf vs) h (omega arith)
 
 pub digit-within : (k : ℕ) (text : List ℕ) → areDigits k text ≡ true →
     (i : ℕ) → i < 2 * k → isDigit (byteAt text i) ≡ true
@@ -108,8 +113,8 @@ pairs-of-digits (v ∷ vs) text h =
 
 pub digits-of-pairs : (k : ℕ) (text : List ℕ) → 2 * k ≤ length text →
     ((i : ℕ) → i < 2 * k → isDigit (byteAt text i) ≡ true) →
-    digitsOf (pairsFrom 0 k text) ≡ take (2 * k) text
-unfolding pairsFrom pairAt digitsOf
+    digitsOf (pairsFrom 0 k text) ≡ upperCase (take (2 * k) text)
+unfolding pairsFrom pairAt digitsOf upperCase
 digits-of-pairs zero text h d = refl
 digits-of-pairs (suc k) [] h d = absurd (omega arith)
 digits-of-pairs (suc k) (a ∷ []) h d = absurd (omega arith)

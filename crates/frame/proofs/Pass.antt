@@ -1,6 +1,6 @@
 -- The reader's one pass over the pairs of a line: what it takes a byte for, what it knows of the digits, and what it
 -- has put down, pair by pair.
---     worth-of-number, worth-of-letter, worth-of-other   what a byte is taken for, by where it lies
+--     worth-of-number, worth-of-upper, worth-of-lower, worth-of-other   what a byte is taken for, by where it lies
 --     digits-go-on     two bytes more are tested
 --     pairs-go-on      and put down as a pair
 --     pairs-are-all    after the last pair there is nothing else
@@ -14,27 +14,50 @@ use mathlib.Core.List.{List, [], _∷_, _++_, append-nil}
 use lib.ListN.{length, drop, set}
 use lib.Seq.{drop-length}
 use lib.Dec.{leb, ltb}
-use borrow.Author.Tests.{le-leb, lt-leb, lt-ltb, ltb-true}
+use borrow.Author.Tests.{leb-true, le-leb, lt-leb, lt-ltb, ltb-true}
 use Rattle.choice.specs.Every.{every}
 use Rattle.choice.proofs.Numbers.{every-next}
 use Rattle.choice.proofs.Tests.{and-left, and-right}
+use Rattle.frame.specs.Case.{isLower}
 use Rattle.frame.specs.Pairs.{isDigit, valueOf, worthOf, noDigit, byteAt, pairAt, pairsFrom}
 use Rattle.frame.proofs.Digits.{value-below}
 use Rattle.frame.proofs.Lines.{pairs-last, pairs-length}
 use Rattle.frame.proofs.Buffers.{put-next}
 
-pub worth-of-number : (b : ℕ) → 48 ≤ b → b ≤ 57 → b - 48 ≡ worthOf b
-unfolding worthOf valueOf
-worth-of-number b low high = simp (le-leb 48 b low, le-leb b 57 high)
+-- a byte within a range, from the two tests that the reader joins
+between : (low b high : ℕ) → leb low b && leb b high ≡ true → (low ≤ b) × (b ≤ high)
+between low b high e =
+    (leb-true low b (and-left (leb low b) (leb b high) e), leb-true b high (and-right (leb low b) (leb b high) e))
 
-pub worth-of-letter : (b : ℕ) → 65 ≤ b → b ≤ 70 → b - 65 + 10 ≡ worthOf b
+pub worth-of-number : (b : ℕ) → leb 48 b && leb b 57 ≡ true → b - 48 ≡ worthOf b
 unfolding worthOf valueOf
-worth-of-letter b low high =
-    simp (le-leb 48 b (omega arith), lt-leb b 57 (omega arith), le-leb 65 b low, le-leb b 70 high) (omega arith)
+worth-of-number b e =
+    let h = between 48 b 57 e in
+    simp (le-leb 48 b (h .0), le-leb b 57 (h .1))
 
-pub worth-of-other : (b : ℕ) → leb 48 b && leb b 57 ≡ false → leb 65 b && leb b 70 ≡ false → noDigit ≡ worthOf b
+pub worth-of-upper : (b : ℕ) → leb 65 b && leb b 70 ≡ true → b - 65 + 10 ≡ worthOf b
+unfolding worthOf valueOf
+worth-of-upper b e =
+    let h = between 65 b 70 e in
+    simp (le-leb 48 b (omega arith), lt-leb b 57 (omega arith), le-leb 65 b (h .0), le-leb b 70 (h .1)) (omega arith)
+
+pub worth-of-lower : (b : ℕ) → isLower b ≡ true → b - 97 + 10 ≡ worthOf b
+unfolding worthOf valueOf
+worth-of-lower b e =
+    let h = between 97 b 102 e in
+    simp (
+      le-leb 48 b (omega arith),
+      lt-leb b 57 (omega arith),
+      le-leb 65 b (omega arith),
+      lt-leb b 70 (omega arith),
+      le-leb 97 b (h .0),
+      le-leb b 102 (h .1),
+    ) (omega arith)
+
+pub worth-of-other : (b : ℕ) → leb 48 b && leb b 57 ≡ false → leb 65 b && leb b 70 ≡ false → isLower b ≡ false →
+    noDigit ≡ worthOf b
 unfolding worthOf
-worth-of-other b n e = simp (n, e)
+worth-of-other b n u l = simp (n, u, l)
 
 -- by whether the byte is a digit
 by-digit : (b v : ℕ) (is : Bool) → isDigit b ≡ is → v ≡ cond is (valueOf b) noDigit → ltb v noDigit ≡ is

@@ -4,16 +4,21 @@ use Prim.Native.Nat.{ℕ, _<_}
 use native.Mathlib.Omega.{arith}
 use mathlib.Core.Path.{_≡_, refl, sym, ap, _∙_}
 use mathlib.Core.Bool.{Bool, true, false}
+use mathlib.Core.Logic.{⊎-elim}
 use mathlib.Core.List.{List, [], _∷_}
+use lib.ListN.{getD, take}
 use Rattle.frame.specs.declared.Line.{Line}
 use Rattle.frame.specs.declared.Line.the-variants.{Frame, Refused}
-use Rattle.frame.specs.Pairs.{pairsFrom}
-use Rattle.frame.specs.Reading.{told, kindOf}
+use Rattle.choice.specs.Every.{every}
+use Rattle.frame.specs.Case.{upperOf, upperCase}
+use Rattle.frame.specs.Pairs.{valueOf, digitOf, pairAt, pairsFrom, sumOf, checkOf}
+use Rattle.frame.specs.Reading.{told, isTorn, areDigits, readAs, kindOf}
 use Rattle.frame.specs.Writing.{digitsOf, lineOf}
-use Rattle.frame.specs.Laws.{DigitsAreInverse, CheckComesToZero, LengthsAreKnown, WrittenIsReadBack, AcceptedIsWritten, OnlyOneAnswerFits}
+use Rattle.frame.specs.Laws.{DigitsAreInverse, CheckComesToZero, LengthsAreKnown, WritesUpperCase, WrittenIsReadBack, AcceptedIsWrittenUpToCase, ReadInEveryCase, CaseIsSharp, OnlyOneAnswerFits}
 use Rattle.frame.proofs.Digits.{digit-is-digit, value-of-digit, value-below, digit-of-value}
 use Rattle.frame.proofs.Sums.{sum-with-check}
 use Rattle.frame.proofs.Lines.{line-length}
+use Rattle.frame.proofs.Case.{upper-twice, upper-same, line-not-lower, read-in-case}
 use Rattle.frame.proofs.Refusals.{is-accepted, by-order}
 use Rattle.frame.proofs.Back.{line-is-read, line-is-written}
 
@@ -51,12 +56,34 @@ first-three : (text : List ℕ) (a b c d : ℕ) →
 unfolding pairsFrom
 first-three text a b c d e = cc
 
-pub accepted-is-written : AcceptedIsWritten
-accepted-is-written text isFirst kind first second check e =
+pub accepted-is-written-up-to-case : AcceptedIsWrittenUpToCase
+accepted-is-written-up-to-case text isFirst kind first second check e =
     let h = by-order 4 (kindOf isFirst) text .none .0 (ap (λ t. t .refusal) e) in
     let same = sym (is-accepted 4 (kindOf isFirst) text (h .0) (h .1) (h .2) (h .3)) ∙ e in
-    line-is-written 3 text (h .0) (h .1) (h .2)
-    ∙ ap lineOf (first-three text kind first second check (ap (λ t. t .numbers) same))
+    sym (upper-twice (take 9 text))
+    ∙ ap upperCase (line-is-written 3 text (h .0) (h .1) (h .2))
+    ∙ ap (λ (vs : List ℕ). upperCase (lineOf vs)) (first-three text kind first second check (ap (λ t. t .numbers) same))
+
+pub writes-upper-case : WritesUpperCase
+writes-upper-case vs h =
+    record { no-lower = line-not-lower vs h; as-it-is = upper-same (lineOf vs) (line-not-lower vs h) }
+
+pub read-in-every-case : ReadInEveryCase
+read-in-every-case s t isFirst e = read-in-case 3 (kindOf isFirst) s t e
+
+pub case-is-sharp : CaseIsSharp
+unfolding lineOf digitsOf digitOf checkOf sumOf readAs isTorn areDigits every pairAt pairsFrom valueOf upperOf
+case-is-sharp =
+    record {
+      written = refl;
+      accepted = refl;
+      another = λ e. omega (arith, ap (λ (l : List ℕ). getD l 7 0) e);
+      no-digits =
+          λ b.
+          ⊎-elim (λ e. rw e (refl, refl))
+          (⊎-elim (λ e. rw e (refl, refl)) (⊎-elim (λ e. rw e (refl, refl)) (λ e. rw e (refl, refl))));
+      bytes-needed = refl;
+    }
 
 -- what an answer says determines it
 told-one : (r s : Line) → told r ≡ told s → r ≡ s

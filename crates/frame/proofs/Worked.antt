@@ -1,5 +1,5 @@
 -- Document 01's worked lines, computed from the definitions: the log of `010001FE` and three lines `020100FD`, and the
--- two refusals that it prints. Each line is given by its bytes, the text in a comment above.
+-- two refusals that it prints; and lines in lower and in mixed case. Each line is given by its bytes, the text in a comment above.
 -- Assumes nothing.
 use mathlib.Core.Path.{_≡_, refl}
 use mathlib.Core.Bool.{true, false}
@@ -62,3 +62,14 @@ later-line : reads (48 ∷ 50 ∷ 48 ∷ 49 ∷ 48 ∷ 48 ∷ 70 ∷ 68 ∷ 10 �
     ≡ record { refusal = 0; numbers = 2 ∷ 1 ∷ 0 ∷ 253 ∷ [] }
 unfolding readAs isTorn areDigits every pairAt pairsFrom valueOf sumOf
 later-line = refl
+
+-- 020100fd, request [3]'s lower case, and 02010Af3 mixed
+lower-line : reads (48 ∷ 50 ∷ 48 ∷ 49 ∷ 48 ∷ 48 ∷ 102 ∷ 100 ∷ 10 ∷ []) false
+    ≡ record { refusal = 0; numbers = 2 ∷ 1 ∷ 0 ∷ 253 ∷ [] }
+unfolding readAs isTorn areDigits every pairAt pairsFrom valueOf sumOf
+lower-line = refl
+
+mixed-line : reads (48 ∷ 50 ∷ 48 ∷ 49 ∷ 48 ∷ 65 ∷ 102 ∷ 51 ∷ 10 ∷ []) false
+    ≡ record { refusal = 0; numbers = 2 ∷ 1 ∷ 10 ∷ 243 ∷ [] }
+unfolding readAs isTorn areDigits every pairAt pairsFrom valueOf sumOf
+mixed-line = refl

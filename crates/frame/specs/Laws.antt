@@ -1,10 +1,14 @@
 -- What document 01's reader and writer owe each other, as statements over the definitions of this folder. Each is the
 -- promise of a function of `src/laws.rt`, so the gate names it when it is proved.
---     DigitsAreInverse     the digit's rule for reading and the one for writing are inverse to each other
+--     DigitsAreInverse     the digit's rule for reading and the one for writing are inverse to each other, up to case
 --     CheckComesToZero     the check of every written line comes to 0
 --     LengthsAreKnown      a written line has two bytes a value and three more: 9, 17, 9 and 11 for 01, 03, 04 and 05
+--     WritesUpperCase      the writer writes no a to f
 --     WrittenIsReadBack    what is written of four pairs is read back as the same numbers, whatever follows it
---     AcceptedIsWritten    every line that is accepted is, byte for byte, what would be written of its numbers
+--     AcceptedIsWrittenUpToCase    every line that is accepted is, up to the case of its digits, what would be written of
+--                          its numbers
+--     ReadInEveryCase      a line is read alike in every mixture of the cases: with the same numbers, or the same refusal
+--     CaseIsSharp          none of this holds with less: computed lines
 --     RefusalsGoByOrder    each refusal is given exactly when its condition holds and those before it do not
 --     OnlyOneAnswerFits    two answers that meet the contract of a public function are one
 use Prim.Native.Nat.{ℕ, _+_, _*_, _<_}
@@ -14,13 +18,14 @@ use mathlib.Core.Bool.{Bool, true, false}
 use mathlib.Core.List.{List, [], _∷_, _++_}
 use lib.ListN.{length, take}
 use Rattle.frame.specs.declared.Line.{Line}
-use Rattle.frame.specs.Pairs.{isDigit, valueOf, digitOf, pairAt, pairsFrom, sumOf, checkOf}
-use Rattle.frame.specs.Reading.{told, isTorn, areDigits, readAs, kindOf, reads, restOf}
-use Rattle.frame.specs.Writing.{lineOf, writes, leaves, headerLine, rowLine, countLine, refusalLine}
+use Rattle.frame.specs.Case.{isLower, upperOf, upperCase, EqualUpToCase}
+use Rattle.frame.specs.Pairs.{lineFeed, isDigit, valueOf, digitOf, byteAt, pairAt, pairsFrom, sumOf, checkOf}
+use Rattle.frame.specs.Reading.{told, refusedBy, isTorn, areDigits, readAs, kindOf, reads, restOf}
+use Rattle.frame.specs.Writing.{Bytes, lineOf, writes, leaves, headerLine, rowLine, countLine, refusalLine}
 
 pub record DigitsAreInverse : Type 0 where
   pub written-then-read : (v : ℕ) → v < 16 → (isDigit (digitOf v) ≡ true) × (valueOf (digitOf v) ≡ v)
-  pub read-then-written : (b : ℕ) → isDigit b ≡ true → (valueOf b < 16) × (digitOf (valueOf b) ≡ b)
+  pub read-then-written : (b : ℕ) → isDigit b ≡ true → (valueOf b < 16) × (digitOf (valueOf b) ≡ upperOf b)
 
 abbrev pub CheckComesToZero : Type 0
 CheckComesToZero = (vs : List ℕ) → sumOf (vs ++ (checkOf vs ∷ [])) ≡ 0
@@ -32,6 +37,14 @@ pub record LengthsAreKnown : Type 0 where
   pub count : (high low : ℕ) → length (countLine high low) ≡ 9
   pub refusal : (refusal high low : ℕ) → length (refusalLine refusal high low) ≡ 11
 
+-- "The writer keeps upper case." The values of a line are bytes, as every value that the code writes.
+pub record InUpperCase (text : List ℕ) : Type 0 where
+  pub no-lower : (i : ℕ) → isLower (byteAt text i) ≡ false
+  pub as-it-is : upperCase text ≡ text
+
+abbrev pub WritesUpperCase : Type 0
+WritesUpperCase = (vs : List ℕ) → Bytes vs → InUpperCase (lineOf vs)
+
 abbrev pub WrittenIsReadBack : Type 0
 WrittenIsReadBack =
     (isFirst : Bool) (first second : ℕ) (after : List ℕ) → first < 256 → second < 256 →
@@ -41,11 +54,32 @@ WrittenIsReadBack =
       numbers = kindOf isFirst ∷ first ∷ second ∷ checkOf (kindOf isFirst ∷ first ∷ second ∷ []) ∷ [];
     }
 
-abbrev pub AcceptedIsWritten : Type 0
-AcceptedIsWritten =
+-- Demand 2 with request [3]: "equal up to the case of the digits"
+abbrev pub AcceptedIsWrittenUpToCase : Type 0
+AcceptedIsWrittenUpToCase =
     (text : List ℕ) (isFirst : Bool) (kind first second check : ℕ) →
     reads text isFirst ≡ record { refusal = 0; numbers = kind ∷ first ∷ second ∷ check ∷ [] } →
-    take 9 text ≡ lineOf (kind ∷ first ∷ second ∷ [])
+    EqualUpToCase (take 9 text) (lineOf (kind ∷ first ∷ second ∷ []))
+
+-- "both cases, also mixed within a line": what is read does not go by the case, nor by what follows the line
+abbrev pub ReadInEveryCase : Type 0
+ReadInEveryCase =
+    (s t : List ℕ) (isFirst : Bool) → EqualUpToCase (take 9 s) (take 9 t) → reads s isFirst ≡ reads t isFirst
+
+-- The line 010001F and a last digit: 010001FE is document 01's
+abbrev pub lineWith : ℕ → List ℕ
+lineWith b = 48 ∷ 49 ∷ 48 ∷ 48 ∷ 48 ∷ 49 ∷ 70 ∷ b ∷ lineFeed ∷ []
+
+pub record CaseIsSharp : Type 0 where
+  -- the line that is written, and 010001Fe beside it: it is read with the same numbers, and is another text
+  pub written : lineWith 69 ≡ headerLine 0 1
+  pub accepted : reads (lineWith 101) true ≡ record { refusal = 0; numbers = 1 ∷ 0 ∷ 1 ∷ 254 ∷ [] }
+  pub another : lineWith 101 ≢ headerLine 0 1
+  -- the letters after F and f, and the bytes before A and a, are no digits, nor is any of them raised to one
+  pub no-digits : (b : ℕ) → (b ≡ 64) ⊎ (b ≡ 71) ⊎ (b ≡ 96) ⊎ (b ≡ 103) →
+      (reads (lineWith b) true ≡ refusedBy 3) × (upperOf b ≡ b)
+  -- of a value that is no byte the digits could be lower-case letters: 672 is 42 times 16, and 55 + 42 the byte of a
+  pub bytes-needed : isLower (byteAt (lineOf (672 ∷ [])) 0) ≡ true
 
 -- The refusal of a line of k pairs that is to begin with the pair `kind`. A torn line is 2; of a whole one, what is not
 -- digits is 3; of digits, a sum that is not 0 is 4; of those with the sum 0, another beginning is 5; and 0, accepted,

@@ -1,5 +1,5 @@
 -- Document 01, "Frames": "A frame is pairs of upper-case hexadecimal digits and a line feed. The last pair is the check: the sum
--- of all pairs, wrapping at 256, is 0." For lines of any number of pairs.
+-- of all pairs, wrapping at 256, is 0." With request [3] the reader takes a to f too. For lines of any number of pairs.
 --     lineFeed                     what ends a line
 --     isDigit, valueOf             the digit's rule for reading; worthOf, a byte as the reader takes it
 --     digitOf                      the digit's rule for writing
@@ -10,17 +10,18 @@ use mathlib.Core.Bool.{Bool, cond, _&&_, _||_}
 use mathlib.Core.List.{List, [], _∷_}
 use lib.ListN.{getD}
 use lib.Dec.{ltb, leb}
+use Rattle.frame.specs.Case.{isLower}
 
 abbrev pub lineFeed : ℕ
 lineFeed = 10
 
--- Reading: the byte b is "0-9 or A-F". 48 to 57 are the bytes of 0 to 9, and 65 to 70 those of A to F.
+-- Reading: the byte b is "0-9, A-F or a-f". 48 to 57 are the bytes of 0 to 9, 65 to 70 those of A to F.
 abbrev pub isDigit : ℕ → Bool
-isDigit b = leb 48 b && leb b 57 || leb 65 b && leb b 70
+isDigit b = leb 48 b && leb b 57 || leb 65 b && leb b 70 || isLower b
 
--- and stands for 0 to 9, or for 10 to 15
+-- and stands for 0 to 9, for 10 to 15, or again for 10 to 15
 unfoldable pub valueOf : ℕ → ℕ
-valueOf b = cond (leb b 57) (b - 48) (b - 55)
+valueOf b = cond (leb b 57) (b - 48) (cond (leb b 70) (b - 55) (b - 87))
 
 -- 16, which no digit stands for
 abbrev pub noDigit : ℕ

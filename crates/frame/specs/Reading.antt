@@ -38,7 +38,7 @@ bytesOf k = 2 * k + 1
 unfoldable pub isTorn : ℕ → List ℕ → Bool
 isTorn k text = ltb (length text) (bytesOf k) || not (eqb (byteAt text (2 * k)) lineFeed)
 
--- 3: "one of the eight is not 0-9 or A-F"
+-- 3: "one of the eight is not 0-9, A-F or a-f"
 unfoldable pub areDigits : ℕ → List ℕ → Bool
 areDigits k text = every (2 * k) (λ i. isDigit (byteAt text i))
 

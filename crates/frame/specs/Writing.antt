@@ -1,13 +1,19 @@
 -- Document 01, "Frames": the line that is written of given values, and what a lent buffer holds afterwards.
+--     Bytes               values that a pair of digits can say
 --     digitsOf, lineOf    the line of any values
 --     writes, leaves      what is answered, and what is left in the buffer
 --     headerLine, rowLine, countLine, refusalLine    the lines 01, 03, 04 and 05
-use Prim.Native.Nat.{ℕ, _/_, _%_}
+use Prim.Native.Nat.{ℕ, _/_, _%_, _<_}
 use mathlib.Core.Bool.{cond}
 use mathlib.Core.List.{List, [], _∷_, _++_}
 use lib.ListN.{length, drop}
 use lib.Dec.{leb}
 use Rattle.frame.specs.Pairs.{lineFeed, digitOf, checkOf}
+
+-- each value is a byte
+abbrev pub Bytes : List ℕ → Type 0
+Bytes [] = Unit {0}
+Bytes (v ∷ vs) = (v < 256) × Bytes vs
 
 -- the two digits of each value, the high digit first
 unfoldable pub digitsOf : List ℕ → List ℕ

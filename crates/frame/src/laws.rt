@@ -1,8 +1,8 @@
 // The laws of lines as contracts: an empty function promises each, so that a check names it. The statements are those
 // of `specs/Laws.antt`; nobody needs to call these.
-ghost use Rattle.frame.specs.Laws.{DigitsAreInverse, CheckComesToZero, LengthsAreKnown, WrittenIsReadBack, AcceptedIsWritten, RefusalsGoByOrder, OnlyOneAnswerFits};
+ghost use Rattle.frame.specs.Laws.{DigitsAreInverse, CheckComesToZero, LengthsAreKnown, WritesUpperCase, WrittenIsReadBack, AcceptedIsWrittenUpToCase, ReadInEveryCase, CaseIsSharp, RefusalsGoByOrder, OnlyOneAnswerFits};
 
-// The digit's rule for reading and its rule for writing are inverse to each other.
+// The digit's rule for reading and its rule for writing are inverse to each other, up to case.
 pub fn digits_are_inverse()
     ensures { λ _. ⌜ DigitsAreInverse ⌝ }
 {}
@@ -17,14 +17,29 @@ pub fn lengths_are_known()
     ensures { λ _. ⌜ LengthsAreKnown ⌝ }
 {}
 
+// The writer writes no a to f.
+pub fn writes_upper_case()
+    ensures { λ _. ⌜ WritesUpperCase ⌝ }
+{}
+
 // What the writer writes of four pairs, the reader reads back.
 pub fn written_is_read_back()
     ensures { λ _. ⌜ WrittenIsReadBack ⌝ }
 {}
 
-// What the reader accepts is what the writer would write.
-pub fn accepted_is_written()
-    ensures { λ _. ⌜ AcceptedIsWritten ⌝ }
+// What the reader accepts is, up to the case of its digits, what the writer would write.
+pub fn accepted_is_written_up_to_case()
+    ensures { λ _. ⌜ AcceptedIsWrittenUpToCase ⌝ }
+{}
+
+// A line is read alike in every mixture of the cases.
+pub fn read_in_every_case()
+    ensures { λ _. ⌜ ReadInEveryCase ⌝ }
+{}
+
+// Computed lines: the laws of case hold of no less.
+pub fn case_is_sharp()
+    ensures { λ _. ⌜ CaseIsSharp ⌝ }
 {}
 
 // The refusals exclude each other by their order, and cover all that is not accepted.

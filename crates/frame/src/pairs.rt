@@ -21,8 +21,8 @@ const NO_DIGIT: u8 = 16;
 // The bytes that lie between 9 and A.
 const GAP: u8 = 7;
 
-// What the reader takes a byte for: 0-9 and A-F for what they stand for, any other for no digit. The tests are joined by
-// `&`, without a branch between them, so that the bytes of a line are looked at side by side.
+// What the reader takes a byte for: 0-9, A-F and a-f for what they stand for, any other for no digit. The tests are joined
+// by `&`, without a branch between them, so that the bytes of a line are looked at side by side.
 pub(crate) fn worth(b: u8) -> u8
     ensures { λ r. ⌜ r ≡ worthOf b ⌝ }
 {
@@ -31,6 +31,9 @@ pub(crate) fn worth(b: u8) -> u8
     }
     if (b'A' <= b) & (b <= b'F') {
         return b - b'A' + 10;
+    }
+    if (b'a' <= b) & (b <= b'f') {
+        return b - b'a' + 10;
     }
     NO_DIGIT
 }

@@ -4,11 +4,11 @@
 // function one answer, and a lent buffer one content. Nobody calls these.
 //     told_read, told_rest                the reader
 //     told_write, told_frame, told_header, told_row, told_count, told_refusal    the writer
-//     told_laws                           the laws, which answer nothing
+//     told_laws, told_case                the laws, which answer nothing
 use crate::Line;
 ghost use mathlib.Core.Path.{_≡_};
 ghost use mathlib.Core.List.{[], _∷_};
-ghost use Rattle.frame.specs.Laws.{DigitsAreInverse, CheckComesToZero, LengthsAreKnown, WrittenIsReadBack, AcceptedIsWritten, RefusalsGoByOrder, OnlyOneAnswerFits};
+ghost use Rattle.frame.specs.Laws.{DigitsAreInverse, CheckComesToZero, LengthsAreKnown, WritesUpperCase, WrittenIsReadBack, AcceptedIsWrittenUpToCase, ReadInEveryCase, CaseIsSharp, RefusalsGoByOrder, OnlyOneAnswerFits};
 ghost use Rattle.frame.specs.Reading.{told, reads, restOf};
 ghost use Rattle.frame.specs.Writing.{lineOf, writes, leaves, headerLine, rowLine, countLine, refusalLine};
 
@@ -71,7 +71,6 @@ fn told_laws()
     ensures { λ _. ⌜ CheckComesToZero ⌝ }
     ensures { λ _. ⌜ LengthsAreKnown ⌝ }
     ensures { λ _. ⌜ WrittenIsReadBack ⌝ }
-    ensures { λ _. ⌜ AcceptedIsWritten ⌝ }
     ensures { λ _. ⌜ RefusalsGoByOrder ⌝ }
     ensures { λ _. ⌜ OnlyOneAnswerFits ⌝ }
 {
@@ -79,7 +78,18 @@ fn told_laws()
     crate::laws::check_comes_to_zero();
     crate::laws::lengths_are_known();
     crate::laws::written_is_read_back();
-    crate::laws::accepted_is_written();
     crate::laws::refusals_go_by_order();
     crate::laws::only_one_answer_fits();
+}
+
+fn told_case()
+    ensures { λ _. ⌜ WritesUpperCase ⌝ }
+    ensures { λ _. ⌜ AcceptedIsWrittenUpToCase ⌝ }
+    ensures { λ _. ⌜ ReadInEveryCase ⌝ }
+    ensures { λ _. ⌜ CaseIsSharp ⌝ }
+{
+    crate::laws::writes_upper_case();
+    crate::laws::accepted_is_written_up_to_case();
+    crate::laws::read_in_every_case();
+    crate::laws::case_is_sharp();
 }

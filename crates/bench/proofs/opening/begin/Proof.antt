@@ -1,4 +1,4 @@
--- `bench::opening::begin` meets its contract: line 1 as read with the later lines behind it, or its refusal alone.
+-- `bench::opening::begin` meets its contract: line 1 of its numbers with the later lines behind it, or its refusal alone.
 -- Assumes nothing.
 use native.Mathlib.Omega.{arith}
 use mathlib.Core.Path.{ap}
@@ -11,16 +11,16 @@ use Rattle.bench.proofs.FirstLine.{refusal-room, later-room, begin-foll
 use Rattle.bench.proofs.opening.begin.Statement.{statement}
 use Rattle.bench.proofs.opening.begin.Tie as tie
 
-abbrev start-of : tie.After-write-frame → tie.Start
+abbrev start-of : tie.After-write-header → tie.Start
 start-of w = w .before .before .before .before .before .before .before
 
 follow-requires : tie.Need-follow-requires
 follow-requires c κs =
     let w = c .before .before .before .before in
     let s = start-of w in (
-      later-room (now (s .args .schedule)) (now (s .args .out)) (w .before .before .before .before .fresh .result)
-          (s .pre .0)
-          (s .args .kind) (s .args .edition) (s .args .n) (s .pre .1) (w .write-frame .last .0) (w .write-frame .ensures .1)
+      later-room (now (s .args .schedule)) (now (s .args .out)) (s .pre .0) (s .args .edition) (s .args .n)
+          (w .before .before .before .before .fresh .result) (w .before .before .before .before .fresh .ensures)
+          (s .pre .1) (w .write-header .last .0) (w .write-header .ensures .1)
           (c .before .rest .result .now) (c .before .rest .ensures),
       rw (w .before .before .before .before .fresh .ensures) (fresh-kept (s .args .edition) (s .args .n)),
     )
@@ -48,11 +48,10 @@ returns c =
     let w = r .before .before .before in
     let s = start-of w in
     let a = w .before .before .before .before .fresh in
-    simp (← a .ensures)
-    (begin-follows (now (s .args .schedule)) (now (s .args .out)) (a .result) (s .pre .0)
-    (s .args .kind) (s .args .edition) (s .args .n) (s .pre .1) (w .write-frame .last .0) (w .write-frame .ensures .1)
+    begin-follows (now (s .args .schedule)) (now (s .args .out)) (s .pre .0) (s .args .edition) (s .args .n)
+    (a .result) (a .ensures) (s .pre .1) (w .write-header .last .0) (w .write-header .ensures .1)
     (w .before .before .before .if1 .taken) (r .rest .result .now) (r .rest .ensures)
-    (f .follow .result) (f .follow .ensures .0) (f .follow .last .0) (f .follow .ensures .1))
+    (f .follow .result) (f .follow .ensures .0) (f .follow .last .0) (f .follow .ensures .1)
 
 write-refused-at-requires : tie.Need-write-refused-at-requires
 write-refused-at-requires c κs =
@@ -64,10 +63,10 @@ returns-2 c =
     let w = c .before .before in
     let a = w .before .before .before in
     let s = a .before .before .before in
-    simp (← a .fresh .ensures)
-    (begin-refuses (now (s .args .schedule)) (now (s .args .out)) (a .fresh .result) (s .pre .0)
-    (w .before .before .if1 .left) (w .write-refused-at .result) (w .write-refused-at .ensures .0)
-    (w .write-refused-at .last .0) (w .write-refused-at .ensures .1))
+    begin-refuses (now (s .args .schedule)) (now (s .args .out)) (s .pre .0) (s .args .edition) (s .args .n)
+    (a .fresh .result) (a .fresh .ensures) (w .before .before .if1 .left)
+    (w .write-refused-at .result) (w .write-refused-at .ensures .0) (w .write-refused-at .last .0)
+    (w .write-refused-at .ensures .1)
 
 pub begin-spec : {M : Type 1} → statement M
 begin-spec =

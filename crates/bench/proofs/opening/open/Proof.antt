@@ -1,13 +1,13 @@
 -- `bench::opening::open` meets its contract: by what the reader answers, the log begins or line 1 is refused. An
--- accepted line is, byte for byte, what is written of its numbers. Assumes nothing.
+-- accepted line has its nine bytes. Assumes nothing.
 use mathlib.Core.Path.{sym, ap, _∙_}
 use mathlib.Core.Bool.{true}
 use denote.Ref.{now}
 use lib.ListN.{length}
 use borrow.Author.Needs.{needs}
-use Rattle.frame.specs.Reading.{told}
-use Rattle.frame.proofs.Proved.{accepted-is-written}
+use Rattle.frame.specs.Reading.{Told, told}
 use Rattle.bench.specs.Steps.{filled}
+use Rattle.bench.proofs.Sizes.{whole-nine}
 use Rattle.bench.proofs.Frames.{open-begins}
 use Rattle.bench.proofs.FirstLine.{refusal-room, open-refused}
 use Rattle.bench.proofs.opening.open.Statement.{statement}
@@ -18,8 +18,8 @@ begin-requires c κs =
     let from = c .before .before in
     let start = from .before .before .before .before .before in (
       start .pre,
-      accepted-is-written (now (start .args .schedule)) true _ _ _ _
-          (sym (from .before .before .read .ensures) ∙ ap told (from .kind .given .1)),
+      whole-nine (now (start .args .schedule)) true
+          (ap (λ (t : Told). t .refusal) (sym (from .before .before .read .ensures) ∙ ap told (from .edition .given .1))),
     )
 
 write-refused-at-requires : tie.Need-write-refused-at-requires
@@ -33,7 +33,7 @@ returns c =
     let start = from .before .before .before .before .before in
     let is =
     open-begins (now (start .args .schedule)) _ _ _ _
-    (sym (from .before .before .read .ensures) ∙ ap told (from .kind .given .1)) in (
+    (sym (from .before .before .read .ensures) ∙ ap told (from .edition .given .1)) in (
       c .before .before .begin .ensures .0 ∙ ap length (sym is),
       c .before .before .begin .ensures .1 ∙ ap (λ l. filled l (now (start .args .out))) (sym is),
     )
