@@ -6,6 +6,9 @@
 --     torn             a last line that is cut short: refusal 2 at line 3
 --     first-refused    edition 4: the refusal alone
 --     raised-inside    a raise while inside: the flag is marked, and no entry
+--     lower            request [3]: the worked example in lower case, with its log in upper case
+--     mixed            in mixed case, one line like no other
+--     letter-g         a g is no digit: refusal 3 at line 2
 -- and what is heard of them, so that each premise of `EveryLogIsARun` is seen to be met:
 --     worked-heard     three calls, and no refusal
 --     refused-heard    one call of three, and refusal 9 of the line after it
@@ -50,6 +53,11 @@ record Examples : Type 0 where
   first-refused : logOf (bytes "010401FA\n020100FD\n") ≡ bytes "05060001F4\n"
   raised-inside : logOf (bytes "010001FE\n020100FD\n020100FD\n020100FD\n020200FC\n")
       ≡ bytes "010001FE\n030002FF00FF00FD\n030003FF00FF00FC\n0300090000FF04F1\n0300090000FF01F4\n040004F8\n"
+  lower : logOf (bytes "010001fe\n020100fd\n020100fd\n020100fd\n")
+      ≡ bytes "010001FE\n030002FF00FF00FD\n030003FF00FF00FC\n0300090000FF04F1\n040003F9\n"
+  mixed : logOf (bytes "010001fE\n020100Fd\n020100fd\n020100fD\n")
+      ≡ bytes "010001FE\n030002FF00FF00FD\n030003FF00FF00FC\n0300090000FF04F1\n040003F9\n"
+  letter-g : logOf (bytes "010001FE\n020100gd\n") ≡ bytes "010001FE\n05030002F6\n"
   worked-heard : Hears "010001FE\n020100FD\n020100FD\n020100FD\n" (step ∷ step ∷ step ∷ []) 0
   refused-heard : Hears "010001FE\n020100FD\n020101FC\n020100FD\n" (step ∷ []) 9
   torn-heard : Hears "010001FE\n020100FD\n0201" (step ∷ []) 2
@@ -68,6 +76,9 @@ computed =
       torn = refl;
       first-refused = refl;
       raised-inside = refl;
+      lower = refl;
+      mixed = refl;
+      letter-g = refl;
       worked-heard = (refl, (refl, refl));
       refused-heard = (refl, (refl, refl));
       torn-heard = (refl, (refl, refl));

@@ -3,6 +3,7 @@
 --     later-heard                  the log from a later line on
 --     heard-accepted, heard-rows   the calls that are heard are accepted, and each has its row
 --     heard-all                    where no refusal follows them, nothing is left of the text
+--     first-is-read, first-whole   where line 1 is not refused, the reader has accepted it, and the first state is sound
 --     log-is-run                   the whole log
 -- Assumes nothing.
 use Prim.Native.Nat.{ℕ, zero, suc, _+_, _*_, _≤_, _<_}
@@ -14,13 +15,15 @@ use mathlib.Core.List.{List, [], _∷_, _++_, append-assoc, append-nil}
 use lib.ListN.{length, drop, length-append, length-drop}
 use lib.Seq.{drop-drop}
 use lib.Dec.{eqb}
-use borrow.Author.Tests.{eq-eqb, ne-eqb, lt-ltb, le-ltb}
+use borrow.Author.Tests.{eqb-true, eq-eqb, ne-eqb, lt-ltb, le-ltb}
 use Rattle.choice.proofs.Tests.{clash}
 use Rattle.lock.specs.declared.LockState.{LockState}
 use Rattle.lock.specs.declared.Answer.{Answer}
 use Rattle.lock.specs.Event.{fresh, happens}
+use Rattle.lock.specs.Kept.{Whole}
 use Rattle.lock.specs.Run.{Call, after, run}
 use Rattle.lock.specs.Claims.{made, IsRun}
+use Rattle.lock.proofs.Keeping.{fresh-kept}
 use Rattle.lock.proofs.Roof.Callers.{calls-are-a-run}
 use Rattle.frame.specs.Reading.{reads, restOf}
 use Rattle.frame.specs.Writing.{headerLine}
@@ -156,13 +159,13 @@ rows-long s (c ∷ cs) =
     ∙ omega (arith, shown-size (after s c) (c .event) (c .processor), rows-long (after s c) cs)
 
 -- nothing is left of the text behind these calls, where no refusal follows them
-abbrev Whole : LockState → List ℕ → List Call → Type 0
-Whole s text calls = lineRefusal (run s calls) (drop (9 * length calls) text) ≡ 0 → drop (9 * length calls) text ≡ []
+abbrev AllHeard : LockState → List ℕ → List Call → Type 0
+AllHeard s text calls = lineRefusal (run s calls) (drop (9 * length calls) text) ≡ 0 → drop (9 * length calls) text ≡ []
 
 whole-heard : (fuel : ℕ) (s : LockState) (b : ℕ) (text : List ℕ) →
-    Whole (after s (callOf (b ∷ text))) (restOf (b ∷ text))
+    AllHeard (after s (callOf (b ∷ text))) (restOf (b ∷ text))
     (heardFrom fuel (after s (callOf (b ∷ text))) (restOf (b ∷ text))) →
-    Whole s (b ∷ text) (heardFrom (suc fuel) s (b ∷ text))
+    AllHeard s (b ∷ text) (heardFrom (suc fuel) s (b ∷ text))
 unfolding run
 whole-heard fuel s b text on =
     let here = b ∷ text in
@@ -170,13 +173,13 @@ whole-heard fuel s b text on =
     let calls = heardFrom fuel next (restOf here) in
     ⊎-elim
     (λ (e : eqb (lineRefusal s here) 0 ≡ true).
-    subst (Whole s here) (sym (more s 0 b text fuel e))
+    subst (AllHeard s here) (sym (more s 0 b text fuel e))
     (λ h. sym (behind (length calls) here) ∙ on (ap (lineRefusal (run next calls)) (behind (length calls) here) ∙ h)))
     (λ (e : eqb (lineRefusal s here) 0 ≡ false).
-    subst (Whole s here) (sym (none s 0 b text fuel e)) (λ h. clash (eq-eqb (lineRefusal s here) 0 h) e))
+    subst (AllHeard s here) (sym (none s 0 b text fuel e)) (λ h. clash (eq-eqb (lineRefusal s here) 0 h) e))
     (cases (eqb (lineRefusal s here) 0))
 
-pub heard-all : (fuel : ℕ) (s : LockState) (text : List ℕ) → length text ≤ fuel → Whole s text (heardFrom fuel s text)
+pub heard-all : (fuel : ℕ) (s : LockState) (text : List ℕ) → length text ≤ fuel → AllHeard s text (heardFrom fuel s text)
 unfolding heardFrom
 heard-all zero s [] h = λ e. refl
 heard-all zero s (b ∷ text) h = absurd (omega arith)
@@ -199,6 +202,9 @@ module _ (text : List ℕ) where
       (λ (r : eqb unread-1 0 ≡ false). eq-eqb unread-1 0 (simp r at h))
       (cases (eqb unread-1 0))
 
+  pub first-is-read : firstRefusal text ≡ 0 → unread-1 ≡ 0
+  first-is-read h = eqb-true unread-1 0 (first-read h)
+
   first-made : firstRefusal text ≡ 0 → made-1 .refusal ≡ 0
   first-made h = simp (first-read h) at h
 
@@ -210,6 +216,9 @@ module _ (text : List ℕ) where
   first-state : firstRefusal text ≡ 0 → made-1 .state ≡ firstState text
   unfolding run
   first-state h = first-run h .state
+
+  pub first-whole : firstRefusal text ≡ 0 → Whole (firstState text)
+  first-whole h = subst Whole (first-state h) (fresh-kept (editionOf text) (processorsOf text))
 
   refused-first : length text ≤ longest → firstRefusal text ≢ 0 → logOf text ≡ refusedAt (firstRefusal text) 1
   unfolding logOf opened begun

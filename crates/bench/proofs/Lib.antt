@@ -10,5 +10,7 @@ pub mod FirstLine
 pub mod Whole
 pub mod Hearing
 pub mod Along
+pub mod Case
+pub mod Upper
 pub mod Proved
 pub mod Examples

@@ -1,7 +1,8 @@
 // The laws of logs as contracts: an empty function promises each, so that a check names it. The statements are those
-// of `specs/Laws.antt` and `specs/Bridge.antt`; nobody needs to call these.
+// of `specs/Laws.antt`, `specs/Bridge.antt` and `specs/Case.antt`; nobody needs to call these.
 ghost use Rattle.bench.specs.Laws.{FuelDoesNotMatter, LogFitsItsRoom, OnlyOneAnswerFits};
 ghost use Rattle.bench.specs.Bridge.{EveryLogIsARun, AcceptedLogIsARun, RowsFollowTheRun, EntryMarkIsAnEntry};
+ghost use Rattle.bench.specs.Case.{CaseDoesNotMatter, LogIsInUpperCase, UpperCaseAsBefore, CaseIsSharp};
 
 // The bound on the lines in the definition of a log changes nothing.
 pub fn fuel_does_not_matter()
@@ -37,4 +38,24 @@ pub fn rows_follow_the_run()
 // The entry mark is given exactly where the call is an entry.
 pub fn entry_mark_is_an_entry()
     ensures { λ _. ⌜ EntryMarkIsAnEntry ⌝ }
+{}
+
+// A schedule has the log that it has in upper case.
+pub fn case_does_not_matter()
+    ensures { λ _. ⌜ CaseDoesNotMatter ⌝ }
+{}
+
+// No log has a to f.
+pub fn log_is_in_upper_case()
+    ensures { λ _. ⌜ LogIsInUpperCase ⌝ }
+{}
+
+// Where line 1 is in upper case, the log begins with it as read.
+pub fn upper_case_as_before()
+    ensures { λ _. ⌜ UpperCaseAsBefore ⌝ }
+{}
+
+// Computed: in another case it does not.
+pub fn case_is_sharp()
+    ensures { λ _. ⌜ CaseIsSharp ⌝ }
 {}

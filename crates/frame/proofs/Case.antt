@@ -1,10 +1,11 @@
 -- The case of digits: texts that are raised, and that the reader does not see it.
 --     Seen, seen                 what the reader looks for in a byte is not changed when it is raised
---     upper-byte, upper-take, upper-drop   the bytes and the parts of a raised text
---     upper-feed                 a line feed at the end stays
+--     upper-length, upper-byte, upper-take, upper-drop   the length, the bytes and the parts of a raised text
+--     upper-append, upper-feed   one text after another, and a line feed at the end
 --     upper-twice                raised once more, it is the same
 --     upper-same                 a text without a to f is as it is, raised
---     line-not-lower             the line of byte values has none
+--     in-upper                   and one that is as it is, raised, has none
+--     line-upper                 so is the line of byte values
 --     read-in-case               lines that are equal up to case are read alike, whatever follows them
 --     read-raised                so a text is read as it is read raised
 -- Assumes nothing.
@@ -20,11 +21,12 @@ use lib.Dec.{leb, ltb, eqb}
 use borrow.Author.Tests.{leb-true, ltb-true, ltb-false, lt-ltb, le-ltb, eqb-true}
 use Rattle.choice.specs.Every.{every}
 use Rattle.choice.proofs.Numbers.{every-at}
-use Rattle.choice.proofs.Tests.{and-right, implies, implied, beq-eq}
+use Rattle.choice.proofs.Tests.{and-left, and-right, implies, implied, beq-eq}
 use Rattle.frame.specs.Case.{isLower, upperOf, upperCase, EqualUpToCase}
 use Rattle.frame.specs.Pairs.{lineFeed, isDigit, valueOf, digitOf, byteAt, pairAt, pairsFrom, sumOf, checkOf}
 use Rattle.frame.specs.Reading.{bytesOf, isTorn, areDigits, readAs}
 use Rattle.frame.specs.Writing.{Bytes, digitsOf, lineOf}
+use Rattle.frame.specs.Laws.{InUpperCase}
 use Rattle.frame.proofs.Digits.{digit-not-lower}
 use Rattle.frame.proofs.Lines.{with-check}
 
@@ -73,7 +75,7 @@ seen b = ⊎-elim (lower-seen b) (λ e. other-seen b (as-it-is b e)) (bool-cases
 
 -- texts that are raised
 
-upper-length : (text : List ℕ) → length (upperCase text) ≡ length text
+pub upper-length : (text : List ℕ) → length (upperCase text) ≡ length text
 unfolding upperCase
 upper-length text = length-map text upperOf
 
@@ -93,10 +95,14 @@ upper-drop zero text = refl
 upper-drop (suc n) [] = refl
 upper-drop (suc n) (b ∷ text) = upper-drop n text
 
+pub upper-append : (s t : List ℕ) → upperCase (s ++ t) ≡ upperCase s ++ upperCase t
+unfolding upperCase
+upper-append [] t = refl
+upper-append (b ∷ s) t = ap (λ (l : List ℕ). upperOf b ∷ l) (upper-append s t)
+
 pub upper-feed : (text : List ℕ) → upperCase (text ++ (lineFeed ∷ [])) ≡ upperCase text ++ (lineFeed ∷ [])
 unfolding upperCase upperOf
-upper-feed [] = refl
-upper-feed (b ∷ text) = ap (λ (l : List ℕ). upperOf b ∷ l) (upper-feed text)
+upper-feed text = upper-append text (lineFeed ∷ [])
 
 pub upper-twice : (text : List ℕ) → upperCase (upperCase text) ≡ upperCase text
 unfolding upperCase
@@ -112,6 +118,21 @@ upper-same (b ∷ text) h =
     ap (λ (c : ℕ). c ∷ upperCase text) (as-it-is b (h 0))
     ∙ ap (λ (l : List ℕ). b ∷ l) (upper-same text (λ i. h (suc i)))
 
+not-lower : (b : ℕ) → upperOf b ≡ b → isLower b ≡ false
+unfolding upperOf
+not-lower b e =
+    ⊎-elim
+    (λ (l : isLower b ≡ true). absurd (omega (arith, leb-true 97 b (and-left (leb 97 b) (leb b 102) l), simp l at e)))
+    (λ l. l)
+    (bool-cases (isLower b))
+
+pub in-upper : (text : List ℕ) → upperCase text ≡ text → InUpperCase text
+in-upper text e =
+    record {
+      no-lower = λ i. not-lower (byteAt text i) (sym (upper-byte text i) ∙ ap (λ (l : List ℕ). byteAt l i) e);
+      as-it-is = e;
+    }
+
 -- what is written
 
 digits-not-lower : (vs : List ℕ) → Bytes vs → (i : ℕ) → isLower (getD (digitsOf vs ++ (lineFeed ∷ [])) i 0) ≡ false
@@ -122,9 +143,9 @@ digits-not-lower (v ∷ vs) h zero = digit-not-lower (v / 16) (omega (arith, h .
 digits-not-lower (v ∷ vs) h (suc zero) = digit-not-lower (v % 16) (omega arith)
 digits-not-lower (v ∷ vs) h (suc (suc i)) = digits-not-lower vs (h .1) i
 
-pub line-not-lower : (vs : List ℕ) → Bytes vs → (i : ℕ) → isLower (byteAt (lineOf vs) i) ≡ false
+pub line-upper : (vs : List ℕ) → Bytes vs → upperCase (lineOf vs) ≡ lineOf vs
 unfolding lineOf
-line-not-lower vs h i = digits-not-lower (vs ++ (checkOf vs ∷ [])) (with-check vs h) i
+line-upper vs h = upper-same (lineOf vs) (digits-not-lower (vs ++ (checkOf vs ∷ [])) (with-check vs h))
 
 -- what is read
 

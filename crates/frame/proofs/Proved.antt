@@ -18,7 +18,7 @@ use Rattle.frame.specs.Laws.{DigitsAreInverse, CheckComesToZero, Lengths
 use Rattle.frame.proofs.Digits.{digit-is-digit, value-of-digit, value-below, digit-of-value}
 use Rattle.frame.proofs.Sums.{sum-with-check}
 use Rattle.frame.proofs.Lines.{line-length}
-use Rattle.frame.proofs.Case.{upper-twice, upper-same, line-not-lower, read-in-case}
+use Rattle.frame.proofs.Case.{upper-twice, in-upper, line-upper, read-in-case}
 use Rattle.frame.proofs.Refusals.{is-accepted, by-order}
 use Rattle.frame.proofs.Back.{line-is-read, line-is-written}
 
@@ -65,8 +65,7 @@ accepted-is-written-up-to-case text isFirst kind first second check e =
     ∙ ap (λ (vs : List ℕ). upperCase (lineOf vs)) (first-three text kind first second check (ap (λ t. t .numbers) same))
 
 pub writes-upper-case : WritesUpperCase
-writes-upper-case vs h =
-    record { no-lower = line-not-lower vs h; as-it-is = upper-same (lineOf vs) (line-not-lower vs h) }
+writes-upper-case vs h = in-upper (lineOf vs) (line-upper vs h)
 
 pub read-in-every-case : ReadInEveryCase
 read-in-every-case s t isFirst e = read-in-case 3 (kindOf isFirst) s t e
