@@ -1,6 +1,6 @@
 -- The reader's one pass over the pairs of a line: what it takes a byte for, what it knows of the digits, and what it
 -- has put down, pair by pair.
---     worth-of-number, worth-of-upper, worth-of-lower, worth-of-other   what a byte is taken for, by where it lies
+--     letter-fits, worth-is   what a byte is taken for, by the two tests that are made of it
 --     digits-go-on     two bytes more are tested
 --     pairs-go-on      and put down as a pair
 --     pairs-are-all    after the last pair there is nothing else
@@ -13,51 +13,44 @@ use mathlib.Core.Bool.{Bool, true, false, cond, _&&_}
 use mathlib.Core.List.{List, [], _∷_, _++_, append-nil}
 use lib.ListN.{length, drop, set}
 use lib.Seq.{drop-length}
-use lib.Dec.{leb, ltb}
-use borrow.Author.Tests.{leb-true, le-leb, lt-leb, lt-ltb, ltb-true}
+use lib.Bits.{bitOr}
+use lib.Dec.{leb, ltb, eqb}
+use borrow.Author.Tests.{leb-true, lt-ltb, ltb-true, eqb-true}
 use Rattle.choice.specs.Every.{every}
-use Rattle.choice.proofs.Numbers.{every-next}
+use Rattle.choice.proofs.Numbers.{every-at, every-next}
 use Rattle.choice.proofs.Tests.{and-left, and-right}
-use Rattle.frame.specs.Case.{isLower}
 use Rattle.frame.specs.Pairs.{isDigit, valueOf, worthOf, noDigit, byteAt, pairAt, pairsFrom}
 use Rattle.frame.proofs.Digits.{value-below}
 use Rattle.frame.proofs.Lines.{pairs-last, pairs-length}
 use Rattle.frame.proofs.Buffers.{put-next}
 
--- a byte within a range, from the two tests that the reader joins
-between : (low b high : ℕ) → leb low b && leb b high ≡ true → (low ≤ b) × (b ≤ high)
-between low b high e =
-    (leb-true low b (and-left (leb low b) (leb b high) e), leb-true b high (and-right (leb low b) (leb b high) e))
+-- the two tests that the reader makes of a byte: is it a letter, in lower case, and is it a number
 
-pub worth-of-number : (b : ℕ) → leb 48 b && leb b 57 ≡ true → b - 48 ≡ worthOf b
-unfolding worthOf valueOf
-worth-of-number b e =
-    let h = between 48 b 57 e in
-    simp (le-leb 48 b (h .0), le-leb b 57 (h .1))
+abbrev isLetter : ℕ → Bool
+isLetter b = leb 97 (bitOr b 32) && leb (bitOr b 32) 102
 
-pub worth-of-upper : (b : ℕ) → leb 65 b && leb b 70 ≡ true → b - 65 + 10 ≡ worthOf b
-unfolding worthOf valueOf
-worth-of-upper b e =
-    let h = between 65 b 70 e in
-    simp (le-leb 48 b (omega arith), lt-leb b 57 (omega arith), le-leb 65 b (h .0), le-leb b 70 (h .1)) (omega arith)
+abbrev isNumber : ℕ → Bool
+isNumber b = leb 48 b && leb b 57
 
-pub worth-of-lower : (b : ℕ) → isLower b ≡ true → b - 97 + 10 ≡ worthOf b
-unfolding worthOf valueOf
-worth-of-lower b e =
-    let h = between 97 b 102 e in
-    simp (
-      le-leb 48 b (omega arith),
-      lt-leb b 57 (omega arith),
-      le-leb 65 b (omega arith),
-      lt-leb b 70 (omega arith),
-      le-leb 97 b (h .0),
-      le-leb b 102 (h .1),
-    ) (omega arith)
+pub letter-fits : (b : ℕ) → isLetter b ≡ true → bitOr b 32 - 97 + 10 < 256
+letter-fits b e =
+    let high : bitOr b 32 ≤ 102 = leb-true (bitOr b 32) 102 (and-right (leb 97 (bitOr b 32)) (leb (bitOr b 32) 102) e) in
+    omega arith
 
-pub worth-of-other : (b : ℕ) → leb 48 b && leb b 57 ≡ false → leb 65 b && leb b 70 ≡ false → isLower b ≡ false →
-    noDigit ≡ worthOf b
-unfolding worthOf
-worth-of-other b n u l = simp (n, u, l)
+-- what it takes the byte for by them is `worthOf`: computed, for every byte
+abbrev taken : Bool → Bool → ℕ → ℕ
+taken letter number b = cond letter (bitOr b 32 - 97 + 10) (cond number (b - 48) noDigit)
+
+all-taken : every 256 (λ b. eqb (taken (isLetter b) (isNumber b) b) (worthOf b)) ≡ true
+unfolding every worthOf valueOf
+all-taken = refl
+
+pub worth-is : (b : ℕ) (letter number : Bool) → b < 256 → isLetter b ≡ letter → isNumber b ≡ number →
+    taken letter number b ≡ worthOf b
+worth-is b letter number h l n =
+    ap (λ (t : Bool). taken t number b) (sym l)
+    ∙ ap (λ (t : Bool). taken (isLetter b) t b) (sym n)
+    ∙ eqb-true _ _ (every-at 256 (λ b. eqb (taken (isLetter b) (isNumber b) b) (worthOf b)) all-taken b h)
 
 -- by whether the byte is a digit
 by-digit : (b v : ℕ) (is : Bool) → isDigit b ≡ is → v ≡ cond is (valueOf b) noDigit → ltb v noDigit ≡ is

@@ -18,22 +18,24 @@ const BASE: u8 = 16;
 // What a byte that is no digit is taken for.
 const NO_DIGIT: u8 = 16;
 
+// What a lower-case letter has more than its upper-case one: one bit.
+const CASE: u8 = 32;
+
 // The bytes that lie between 9 and A.
 const GAP: u8 = 7;
 
-// What the reader takes a byte for: 0-9, A-F and a-f for what they stand for, any other for no digit. The tests are joined
-// by `&`, without a branch between them, so that the bytes of a line are looked at side by side.
+// What the reader takes a byte for: 0-9, A-F and a-f for what they stand for, any other for no digit. With the bit of `CASE`
+// set A-F are a-f, and no other bytes come to lie there. The tests are joined by `&`, without a branch between them, and the
+// letters are tested first, so that the bytes of a line are looked at side by side.
 pub(crate) fn worth(b: u8) -> u8
     ensures { λ r. ⌜ r ≡ worthOf b ⌝ }
 {
+    let lower = b | CASE;
+    if (b'a' <= lower) & (lower <= b'f') {
+        return lower - b'a' + 10;
+    }
     if (b'0' <= b) & (b <= b'9') {
         return b - b'0';
-    }
-    if (b'A' <= b) & (b <= b'F') {
-        return b - b'A' + 10;
-    }
-    if (b'a' <= b) & (b <= b'f') {
-        return b - b'a' + 10;
     }
     NO_DIGIT
 }
