@@ -44,8 +44,3 @@ fn below(top: u64, k: u64) -> u64 {
     }
     top % k
 }
-
-// One byte more in a digest.
-pub fn mixed(h: u64, b: u8) -> u64 {
-    (h % 4294967291 * 257 + b as u64 + 1) % 4294967291
-}

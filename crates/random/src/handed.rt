@@ -1,7 +1,7 @@
 // States handed in at random, each with one event, and the digest of what comes back.
 use crate::damage;
-use crate::dice;
 use crate::dice::Dice;
+use crate::digest;
 use crate::state;
 use lock::LockState;
 use lock::Row;
@@ -24,7 +24,7 @@ pub struct Block {
 pub fn trials(number: u64) -> Block {
     let mut b = Block {
         accepted: 0,
-        digest: 7,
+        digest: digest::NOTHING,
     };
     for k in 0..EACH {
         let next = trial(b, number % 65536 * EACH + k);
@@ -46,7 +46,7 @@ fn trial(b: Block, t: u64) -> Block {
     let after = answer.state;
     Block {
         accepted: b.accepted % 65536 + bit(refusal == 0) as u64,
-        digest: digest(dice::mixed(b.digest, refusal), after),
+        digest: with_state(digest::mixed(b.digest, refusal), after),
     }
 }
 
@@ -82,9 +82,9 @@ fn whom(d: Dice, n: u8) -> Dice {
 }
 
 // the state's bytes mixed into a digest
-fn digest(h: u64, state: LockState) -> u64 {
-    let mut sum = dice::mixed(
-        dice::mixed(dice::mixed(h, state.edition), state.n),
+fn with_state(h: u64, state: LockState) -> u64 {
+    let mut sum = digest::mixed(
+        digest::mixed(digest::mixed(h, state.edition), state.n),
         state.tail,
     );
     for i in 0..LockState::PROCESSORS {
@@ -94,12 +94,15 @@ fn digest(h: u64, state: LockState) -> u64 {
 }
 
 fn with_cells(h: u64, r: Row) -> u64 {
-    let left = dice::mixed(
-        dice::mixed(dice::mixed(dice::mixed(h, r.next), r.locked), bit(r.guard)),
+    let left = digest::mixed(
+        digest::mixed(
+            digest::mixed(digest::mixed(h, r.next), r.locked),
+            bit(r.guard),
+        ),
         bit(r.flag),
     );
-    dice::mixed(
-        dice::mixed(dice::mixed(dice::mixed(left, r.place), r.pred), r.succ),
+    digest::mixed(
+        digest::mixed(digest::mixed(digest::mixed(left, r.place), r.pred), r.succ),
         r.nx,
     )
 }

@@ -3,6 +3,7 @@
 // program prints of the same page.
 mod damage;
 mod dice;
+mod digest;
 mod handed;
 mod plan;
 mod state;
@@ -31,7 +32,8 @@ fn schedules(schedule: &mut [u8], log: &mut [u8]) {
 fn states() {
     let mut block: u64 = 0;
     while block < handed::BLOCKS {
-        show_block(block, handed::trials(block));
+        let told = handed::trials(block);
+        print(block, told.accepted, told.digest);
         block += 1;
     }
 }
@@ -50,35 +52,20 @@ fn tell(i: u64, schedule: &[u8], length: usize, log: &mut [u8]) {
     }
 }
 
-// The number of a block of handed-in states, how many events were accepted, and the answers' digest.
-fn show_block(number: u64, block: handed::Block) {
-    io::print_decimal(STDOUT_FILENO, number);
-    io::write_all(STDOUT_FILENO, b" ");
-    io::print_decimal(STDOUT_FILENO, block.accepted);
-    io::write_all(STDOUT_FILENO, b" ");
-    io::print_decimal(STDOUT_FILENO, block.digest);
-    io::write_all(STDOUT_FILENO, b"\n");
-}
-
 // The number of a schedule, its log's length and digest; and the log itself for a few.
 fn show(i: u64, log: &[u8]) {
-    io::print_decimal(STDOUT_FILENO, i);
-    io::write_all(STDOUT_FILENO, b" ");
-    io::print_decimal(STDOUT_FILENO, log.len() as u64);
-    io::write_all(STDOUT_FILENO, b" ");
-    io::print_decimal(STDOUT_FILENO, digest(log));
-    io::write_all(STDOUT_FILENO, b"\n");
+    print(i, log.len() as u64, digest::with_log(digest::NOTHING, log));
     if i % 120 == 5 || i % 120 == 7 {
         io::write_all(STDOUT_FILENO, log);
     }
 }
 
-fn digest(log: &[u8]) -> u64 {
-    let mut h: u64 = 7;
-    let mut k = 0;
-    while k < log.len() {
-        h = dice::mixed(h, log[k]);
-        k += 1;
-    }
-    h
+// One line of three numbers.
+fn print(first: u64, second: u64, third: u64) {
+    io::print_decimal(STDOUT_FILENO, first);
+    io::write_all(STDOUT_FILENO, b" ");
+    io::print_decimal(STDOUT_FILENO, second);
+    io::write_all(STDOUT_FILENO, b" ");
+    io::print_decimal(STDOUT_FILENO, third);
+    io::write_all(STDOUT_FILENO, b"\n");
 }

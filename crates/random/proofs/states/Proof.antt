@@ -16,8 +16,8 @@ loop-holds c = search needs
 trials-requires : tie.Need-trials-requires Inv-loop μ-loop
 trials-requires c κs = search needs
 
-show-block-requires : tie.Need-show-block-requires Inv-loop μ-loop
-show-block-requires c κs = search needs
+print-requires : tie.Need-print-requires Inv-loop μ-loop
+print-requires c κs = search needs
 
 add-block : tie.Need-add-block Inv-loop μ-loop
 add-block c = search needs
@@ -32,4 +32,4 @@ returns : tie.Need-returns Inv-loop μ-loop
 returns c = search needs
 
 pub states-spec : {M : Type 1} → statement M
-states-spec = tie.close (tie.spec Inv-loop μ-loop loop-holds trials-requires show-block-requires add-block loop-less loop-again returns)
+states-spec = tie.close (tie.spec Inv-loop μ-loop loop-holds trials-requires print-requires add-block loop-less loop-again returns)

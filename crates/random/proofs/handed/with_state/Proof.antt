@@ -1,8 +1,8 @@
--- `random::handed::digest` is safe and ends. The loop's invariant: `i` is at most 16.
+-- `random::handed::with_state` is safe and ends. The loop's invariant: `i` is at most 16.
 use borrow.Author.Needs.{needs}
 use Prim.Native.Nat.{_≤_, _-_}
-use Rattle.random.proofs.handed.digest.Statement.{statement}
-use Rattle.random.proofs.handed.digest.Tie as tie
+use Rattle.random.proofs.handed.with_state.Statement.{statement}
+use Rattle.random.proofs.handed.with_state.Tie as tie
 
 abbrev Inv-loop : tie.InvT-loop
 Inv-loop h state sum₀ i₀ sum i = i ≤ 16
@@ -40,5 +40,5 @@ loop-again c = search needs
 returns : tie.Need-returns Inv-loop μ-loop
 returns c = search needs
 
-pub digest-spec : {M : Type 1} → statement M
-digest-spec = tie.close (tie.spec Inv-loop μ-loop mixed-requires mixed-requires-2 mixed-requires-3 loop-holds row-requires with-cells-requires add-i loop-less loop-again returns)
+pub with-state-spec : {M : Type 1} → statement M
+with-state-spec = tie.close (tie.spec Inv-loop μ-loop mixed-requires mixed-requires-2 mixed-requires-3 loop-holds row-requires with-cells-requires add-i loop-less loop-again returns)

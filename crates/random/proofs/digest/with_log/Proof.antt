@@ -1,15 +1,15 @@
--- `random::digest` is safe and ends. The loop's invariant: `k` is at most the log's length.
+-- `random::digest::with_log` is safe and ends. The loop's invariant: `k` is at most the log's length.
 use borrow.Author.Needs.{needs}
 use Prim.Native.Nat.{_≤_, _-_}
 use lib.ListN.{length}
-use Rattle.random.proofs.digest.Statement.{statement}
-use Rattle.random.proofs.digest.Tie as tie
+use Rattle.random.proofs.digest.with_log.Statement.{statement}
+use Rattle.random.proofs.digest.with_log.Tie as tie
 
 abbrev Inv-loop : tie.InvT-loop
-Inv-loop log h₀ k₀ h k = k ≤ length log
+Inv-loop h log sum₀ k₀ sum k = k ≤ length log
 
 abbrev μ-loop : tie.MeasureT-loop
-μ-loop log h₀ k₀ h k = length log - k
+μ-loop h log sum₀ k₀ sum k = length log - k
 
 loop-holds : tie.Need-loop-holds Inv-loop μ-loop
 loop-holds c = search needs
@@ -32,5 +32,5 @@ loop-again c = search needs
 returns : tie.Need-returns Inv-loop μ-loop
 returns c = search needs
 
-pub digest-spec : {M : Type 1} → statement M
-digest-spec = tie.close (tie.spec Inv-loop μ-loop loop-holds shared-slice-read-mixed mixed-requires add-k loop-less loop-again returns)
+pub with-log-spec : {M : Type 1} → statement M
+with-log-spec = tie.close (tie.spec Inv-loop μ-loop loop-holds shared-slice-read-mixed mixed-requires add-k loop-less loop-again returns)
