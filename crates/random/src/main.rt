@@ -11,7 +11,7 @@ mod text;
 
 use libc::STDOUT_FILENO;
 
-const SCHEDULES: u64 = 640;
+const SCHEDULES: u64 = 800;
 
 fn main() {
     // 54,010 bytes for a schedule that is too long.

@@ -5,6 +5,16 @@ use crate::state;
 // The schedules from this one on are of edition 3.
 const OLD_FROM: u64 = 480;
 
+// The schedules from this one on are in lower or in mixed case, and of all editions.
+const SMALL_FROM: u64 = 640;
+
+const EDITIONS: u64 = state::OLD + 1;
+
+// The case of a schedule's letters: upper for those before `SMALL_FROM` and for no other, then lower; the third is mixed.
+pub const UPPER: u64 = 0;
+
+pub const LOWER: u64 = 1;
+
 pub struct Plan {
     pub edition: u64,
     pub n: u64,
@@ -13,6 +23,7 @@ pub struct Plan {
     pub stay: u64,
     pub damage: u64,
     pub victim: u64,
+    pub case: u64,
     pub dice: Dice,
 }
 
@@ -27,7 +38,8 @@ pub fn planned(i: u64) -> Plan {
     let stay = slow.got % 8 + 1;
     let harm = harmed(slow, i);
     let damage = harm.got;
-    let dice = harm.roll(count);
+    let chosen = harm.roll(count);
+    let dice = lettered(chosen, i);
     Plan {
         edition: edition(i),
         n,
@@ -35,17 +47,21 @@ pub fn planned(i: u64) -> Plan {
         raises,
         stay,
         damage,
-        victim: dice.got % 65536 + 1,
+        victim: chosen.got % 65536 + 1,
+        case: dice.got,
         dice,
     }
 }
 
-// the editions with a queue in turn, and after all of these edition 3
+// the editions with a queue in turn; then edition 3; then all, each for four schedules, since only the last of each four is damaged
 fn edition(i: u64) -> u64 {
     if i < OLD_FROM {
         return i % state::OLD;
     }
-    state::OLD
+    if i < SMALL_FROM {
+        return state::OLD;
+    }
+    i / 4 % EDITIONS
 }
 
 // N, in `got`
@@ -71,4 +87,12 @@ fn harmed(d: Dice, i: u64) -> Dice {
         return d.roll(10).plus(1);
     }
     d.giving(0)
+}
+
+// the case of the letters
+fn lettered(d: Dice, i: u64) -> Dice {
+    if i < SMALL_FROM {
+        return d.giving(UPPER);
+    }
+    d.roll(2).plus(LOWER)
 }

@@ -1,12 +1,17 @@
-// The bytes of a schedule, line by line, and the damage that is done to them at last.
+// The bytes of a schedule: line by line in upper case, then the letters' case, and the damage that is done to them at last.
 use crate::dice::Dice;
+use crate::plan;
 use crate::plan::Plan;
+
+// No digits in either case: the six bytes beside the digits, a letter past them, and an A with the highest bit set.
+const NO_DIGITS: [u64; 8] = [47, 58, 64, 71, 96, 103, 122, 193];
 
 // Writes the schedule into `text` and answers its length.
 pub fn make(plan: Plan, text: &mut [u8]) -> usize {
     let d = header(plan, text);
-    let end = events(plan, d, text);
-    harm(plan, end, text)
+    let written = events(plan, d, text);
+    let made = cased(plan, written, text);
+    harm(plan, made, text)
 }
 
 // One line at `at`, where there is room for it.
@@ -146,6 +151,44 @@ fn unknown(d: Dice) -> Dice {
     coin.roll(253).plus(3)
 }
 
+// The letters of all lines in the schedule's case. Of what is answered only the dice are new.
+fn cased(plan: Plan, made: Made, text: &mut [u8]) -> Made {
+    let end = made.at;
+    let mut after = made;
+    for at in 0..end {
+        let dice = letter(plan.case, after.dice, text, at);
+        after.dice = dice;
+    }
+    after
+}
+
+// The byte at `at`: a letter may become a small one.
+fn letter(case: u64, d: Dice, text: &mut [u8], at: usize) -> Dice {
+    if text.len() <= at {
+        return d;
+    }
+    let byte = text[at];
+    match byte {
+        b'A'..=b'F' => {
+            let coin = small(case, d);
+            if coin.got == 0 {
+                text[at] = byte - b'A' + b'a';
+            }
+            coin
+        }
+        _ => d,
+    }
+}
+
+// 0 in `got` where the next letter becomes a small one
+fn small(case: u64, d: Dice) -> Dice {
+    match case {
+        plan::UPPER => d.giving(1),
+        plan::LOWER => d.giving(0),
+        _ => d.roll(2),
+    }
+}
+
 // The damage to the whole text; answers its length.
 fn harm(plan: Plan, made: Made, text: &mut [u8]) -> usize {
     let d = made.dice;
@@ -158,7 +201,7 @@ fn harm(plan: Plan, made: Made, text: &mut [u8]) -> usize {
         return (short.got % 65536) as usize;
     }
     if plan.damage == 8 {
-        return no_digit(d, plan.count, end, text);
+        return no_digit(plan, d, end, text);
     }
     if plan.damage == 9 {
         return filled(text, end);
@@ -178,16 +221,21 @@ fn any_byte(d: Dice, end: usize, text: &mut [u8]) -> usize {
 }
 
 // a byte that is no digit where a digit was
-fn no_digit(d: Dice, count: u64, end: usize, text: &mut [u8]) -> usize {
-    let row = d.roll(count % 65536 + 1);
+fn no_digit(plan: Plan, d: Dice, end: usize, text: &mut [u8]) -> usize {
+    let row = d.roll(plan.count % 65536 + 1);
     let column = row.roll(8);
-    let byte = column.roll(7);
-    put(
-        text,
-        row.got % 65536 * 9 + column.got % 8,
-        byte.got % 7 + 58,
-    );
+    let byte = foreign(plan.case, column);
+    put(text, row.got % 65536 * 9 + column.got % 8, byte.got);
     end
+}
+
+// a byte that is no digit, in `got`; in upper case one between 9 and A
+fn foreign(case: u64, d: Dice) -> Dice {
+    if case == plan::UPPER {
+        return d.roll(7).plus(58);
+    }
+    let which = d.roll(8);
+    which.giving(NO_DIGITS[(which.got % 8) as usize])
 }
 
 // another last digit in the check of the victim's line

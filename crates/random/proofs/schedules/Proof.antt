@@ -7,10 +7,10 @@ use Rattle.random.proofs.schedules.Statement.{statement}
 use Rattle.random.proofs.schedules.Tie as tie
 
 abbrev Inv-loop : tie.InvT-loop
-Inv-loop schedule₀ log₀ i₀ schedule log i = (i ≤ 640) × (length schedule ≡ length schedule₀) × (length log ≡ length log₀)
+Inv-loop schedule₀ log₀ i₀ schedule log i = (i ≤ 800) × (length schedule ≡ length schedule₀) × (length log ≡ length log₀)
 
 abbrev μ-loop : tie.MeasureT-loop
-μ-loop schedule₀ log₀ i₀ schedule log i = 640 - i
+μ-loop schedule₀ log₀ i₀ schedule log i = 800 - i
 
 loop-holds : tie.Need-loop-holds Inv-loop μ-loop
 loop-holds c = search needs
