@@ -1,6 +1,7 @@
 // Random and damaged schedules through the bench: a line for each with its log's length and digest, and a few logs whole. Then
-// states handed in at random, each with one event. Both are those of docs/RANDOM.md; what is printed is held to what the second
-// program prints of the same page.
+// states handed in at random, each with one event. Then short schedules with every pair of bytes, and with every byte at each
+// place. All are those of docs/RANDOM.md; what is printed is held to what the second program prints of the same page.
+mod bytes;
 mod damage;
 mod dice;
 mod digest;
@@ -9,6 +10,7 @@ mod plan;
 mod state;
 mod text;
 
+use bytes::Sweep;
 use libc::STDOUT_FILENO;
 
 const SCHEDULES: u64 = 800;
@@ -19,6 +21,8 @@ fn main() {
     let mut log = [0u8; 102028];
     schedules(&mut schedule, &mut log);
     states();
+    pairs(&mut log);
+    places(&mut log);
 }
 
 fn schedules(schedule: &mut [u8], log: &mut [u8]) {
@@ -35,6 +39,21 @@ fn states() {
         let told = handed::trials(block);
         print(block, told.accepted, told.digest);
         block += 1;
+    }
+}
+
+fn pairs(log: &mut [u8]) {
+    for a in 0..bytes::VALUES {
+        let first = (a % 256) as u8;
+        let told = bytes::swept(Sweep::Pair(first), log);
+        print(a, told.length, told.digest);
+    }
+}
+
+fn places(log: &mut [u8]) {
+    for at in 0..bytes::PLACES {
+        let told = bytes::swept(Sweep::Place(at as usize), log);
+        print(at, told.length, told.digest);
     }
 }
 
