@@ -21,12 +21,15 @@ static struct { uint8_t edition, n, tail; struct row rows[PROCESSORS]; } lock;
 static uint8_t schedule[LONGEST + 1], printed[ROW_LINE * (LONGEST / LINE) + REFUSAL_LINE];
 static uint8_t *out = printed;
 
-/* Frames. Of each byte: the value of an upper-case digit, 256 where it is none. */
+/* Frames. Of each byte: the value of a digit of either case, 256 where it is none. */
 static uint16_t value[256];
 
 static void make_values(void) {
     for (int b = 0; b < 256; b++)
-        value[b] = (uint16_t)('0' <= b && b <= '9' ? b - '0' : 'A' <= b && b <= 'F' ? b - 'A' + 10 : 256);
+        value[b] = (uint16_t)('0' <= b && b <= '9'   ? b - '0'
+                              : 'A' <= b && b <= 'F' ? b - 'A' + 10
+                              : 'a' <= b && b <= 'f' ? b - 'a' + 10
+                                                     : 256);
 }
 
 static inline unsigned pair_at(const uint8_t *text) {

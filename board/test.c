@@ -1,7 +1,8 @@
 /* test.c: the library at its edges, and on a schedule of standard input.
  *
- *     test        a buffer too short by one byte, one that just fits, a schedule that is too long, no bytes at all,
- *                 and a line's buffer; says what is wrong, prints how many edges it tried, and ends with 1 or 0
+ *     test        a buffer too short by one byte, one that just fits, a schedule in lower and in mixed case, one that is
+ *                 too long, no bytes at all, and a line's buffer; says what is wrong, prints how many edges it tried,
+ *                 and ends with 1 or 0
  *     test log    a schedule on standard input, its log on standard output */
 #include "pontivesca.h"
 
@@ -61,6 +62,13 @@ static void edges(void) {
     expect(logs(bytes, pontivesca_room(bytes), its_log), "the worked example in a buffer that just fits");
     expect(logs(bytes, sizeof out, its_log), "the worked example in a larger buffer");
     expect(logs(0, 11, "05020001F8\n"), "no bytes at all");
+
+    memcpy(schedule, "010001fe\n020100fd\n020100fd\n020100fd\n", bytes);
+    expect(logs(bytes, pontivesca_room(bytes), its_log), "the worked example in lower case");
+    memcpy(schedule, "010001fE\n020100Fd\n020100fd\n020100fD\n", bytes);
+    expect(logs(bytes, pontivesca_room(bytes), its_log), "the worked example in mixed case");
+    memcpy(schedule, "010001ge\n", 9);
+    expect(logs(9, pontivesca_room(9), "05030001F7\n"), "a letter that is no digit");
 
     memset(schedule, '\n', sizeof schedule);
     expect(logs(LONGEST + 1, 11, "05010000FA\n"), "54,010 bytes");
