@@ -13,7 +13,7 @@ BEGIN {
     # 10 and 11 are answers of the library, and end no log
     refusal[1] = "the schedule has over 54,009 bytes"
     refusal[2] = "fewer than 9 bytes are left for a wanted line, or the ninth is no line feed"
-    refusal[3] = "one of the eight is not 0-9 or A-F"
+    refusal[3] = "one of the eight is not 0-9, A-F or a-f"
     refusal[4] = "the check doesn't come to 0"
     refusal[5] = "line 1 doesn't begin 01, or a later one 02"
     refusal[6] = "edition over 3"
@@ -39,6 +39,13 @@ function read_lines(    reader, line, held) {
 function fail(message) {
     print "lockbench: line " number " of the " what ": " message > "/dev/stderr"
     exit 1
+}
+
+# The digits of a line, in upper case whichever case they are read in. Nothing but digits gets past the match, so no
+# other letter is raised.
+function digits_of(text) {
+    if (match(text, /[^0-9A-Fa-f]/)) fail("character " RSTART " is not 0-9, A-F or a-f")
+    return toupper(text)
 }
 
 # The pairs of a line as numbers in v[1], v[2] ..; answers their sum.
@@ -68,8 +75,4 @@ function take_header(e, n) {
     if (n < 1 || n > PROCESSORS) fail(refusal[7])
     edition = e
     N = n
-}
-
-function digits_only(text) {
-    if (match(text, /[^0-9A-F]/)) fail("character " RSTART " is not 0-9 or A-F")
 }

@@ -1,5 +1,5 @@
-# log.awk: reads a log of lockbench on standard input and replays it from the fresh state. Every view of a log begins
-# here. In order: the reading, a line of each kind, an event.
+# log.awk: reads a log of lockbench on standard input, in upper or lower case, and replays it from the fresh state.
+# Every view of a log begins here. In order: the reading, a line of each kind, an event.
 #
 # An 03 line does not say which event it answers, and shows one row. So both events of its processor are tried on the
 # state that the lines before it have led to: the line is what a step gives, or a raise, or both. Where it is neither,
@@ -40,7 +40,7 @@ function take_part(    asked) {
 # One whole line: its form, its check, and whether it may stand here.
 function take(text,    kind) {
     if (ending != "") fail("nothing may follow the 04 or 05 line")
-    digits_only(text)
+    text = digits_of(text)
     kind = substr(text, 1, 2)
     if (kind == "02") fail("begins 02, which is a line of a schedule; give the schedule to ./lockbench first")
     if (!(kind in size)) fail("does not begin with 01, 03, 04 or 05")

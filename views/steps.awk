@@ -1,5 +1,5 @@
 # steps.awk: a schedule in hexadecimal to the words that hex.awk reads. Only what lockbench accepts whole is told;
-# hex.awk then gives the same bytes back.
+# hex.awk then gives the same lines back, in upper case.
 
 BEGIN {
     what = "schedule"
@@ -10,7 +10,7 @@ BEGIN {
 }
 
 function take(text,    kind) {
-    digits_only(text)
+    text = digits_of(text)
     kind = substr(text, 1, 2)
     if (kind ~ /^0[345]$/) fail("begins " kind ", which is a line of a log; a schedule is wanted")
     if (number == 1 && kind != "01") fail("does not begin 01")
