@@ -24,8 +24,9 @@ BEGIN {
 
 # Every line in turn. Answers what stands after the last line feed; `number` is then that of the line it would be.
 function read_lines(    reader, line, held) {
-    # The dot shows whether the last line has its line feed: awk itself does not tell.
-    reader = "cat; echo ."
+    # The dot shows whether the last line has its line feed: awk itself does not tell. And some awks leave out what
+    # follows a byte 0, so it becomes 1, which is just as wrong.
+    reader = "tr '\\000' '\\001'; echo ."
     number = 0
     while ((reader | getline line) > 0) {
         if (number > 0) take(held)
