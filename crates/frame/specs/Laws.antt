@@ -37,11 +37,12 @@ pub record LengthsAreKnown : Type 0 where
   pub count : (high low : ℕ) → length (countLine high low) ≡ 9
   pub refusal : (refusal high low : ℕ) → length (refusalLine refusal high low) ≡ 11
 
--- "The writer keeps upper case." The values of a line are bytes, as every value that the code writes.
+-- none of a to f anywhere, so raised the text is as it is
 pub record InUpperCase (text : List ℕ) : Type 0 where
   pub no-lower : (i : ℕ) → isLower (byteAt text i) ≡ false
   pub as-it-is : upperCase text ≡ text
 
+-- "The writer keeps upper case": of values that are bytes, as all are that the code writes
 abbrev pub WritesUpperCase : Type 0
 WritesUpperCase = (vs : List ℕ) → Bytes vs → InUpperCase (lineOf vs)
 
@@ -66,7 +67,7 @@ abbrev pub ReadInEveryCase : Type 0
 ReadInEveryCase =
     (s t : List ℕ) (isFirst : Bool) → EqualUpToCase (take 9 s) (take 9 t) → reads s isFirst ≡ reads t isFirst
 
--- The line 010001F and a last digit: 010001FE is document 01's
+-- the line 010001F with its last digit to come: 010001FE is document 01's
 abbrev pub lineWith : ℕ → List ℕ
 lineWith b = 48 ∷ 49 ∷ 48 ∷ 48 ∷ 48 ∷ 49 ∷ 70 ∷ b ∷ lineFeed ∷ []
 
@@ -75,7 +76,7 @@ pub record CaseIsSharp : Type 0 where
   pub written : lineWith 69 ≡ headerLine 0 1
   pub accepted : reads (lineWith 101) true ≡ record { refusal = 0; numbers = 1 ∷ 0 ∷ 1 ∷ 254 ∷ [] }
   pub another : lineWith 101 ≢ headerLine 0 1
-  -- the letters after F and f, and the bytes before A and a, are no digits, nor is any of them raised to one
+  -- the letters after F and f, and the bytes before A and a, are no digits, and are not raised
   pub no-digits : (b : ℕ) → (b ≡ 64) ⊎ (b ≡ 71) ⊎ (b ≡ 96) ⊎ (b ≡ 103) →
       (reads (lineWith b) true ≡ refusedBy 3) × (upperOf b ≡ b)
   -- of a value that is no byte the digits could be lower-case letters: 672 is 42 times 16, and 55 + 42 the byte of a
