@@ -45,6 +45,7 @@ fn run<W: FnMut(&Happening)>(schedule: &[u8], out: &mut Vec<u8>, mut watch: W) -
 
     let [first, edition, n, _] = frame::read(schedule, 1).map_err(|refusal| (refusal, 1))?;
     let mut lock = Lock::fresh(edition, n).map_err(|refusal| (refusal, 1))?;
+    // Request [3]: line 1 as the writer gives it, and not the bytes that were read.
     frame::write(out, &[first, edition, n]);
 
     let mut line = 1;

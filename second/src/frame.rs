@@ -1,11 +1,12 @@
-//! Frames: the reader of one line, with refusals 2 to 5, and the writer of one line.
+//! Frames: the reader of one line, with refusals 2 to 5, and the writer of one line. The reader takes digits of either
+//! case, also mixed; the writer keeps to upper case.
 
 /// Bytes in a line read: four pairs and a line feed.
 pub const LINE: usize = 9;
 
 /// Refusal 2: fewer than 9 bytes left, or the ninth is no line feed.
 pub const REFUSED_LINE: u8 = 2;
-/// Refusal 3: one of the eight is not 0-9 or A-F.
+/// Refusal 3: one of the eight is not 0-9, A-F or a-f.
 pub const REFUSED_DIGIT: u8 = 3;
 /// Refusal 4: the check doesn't come to 0.
 pub const REFUSED_CHECK: u8 = 4;
@@ -45,10 +46,12 @@ fn write_pair(out: &mut Vec<u8>, pair: u8) {
     out.push(DIGITS[(pair % 16) as usize]);
 }
 
+/// A byte as a digit. Request [3]: a to f are worth what A to F are.
 fn digit(byte: u8) -> Result<u8, u8> {
     match byte {
         b'0'..=b'9' => Ok(byte - b'0'),
         b'A'..=b'F' => Ok(byte - b'A' + 10),
+        b'a'..=b'f' => Ok(byte - b'a' + 10),
         _ => Err(REFUSED_DIGIT),
     }
 }

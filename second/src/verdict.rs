@@ -183,7 +183,7 @@ fn tried(before: &Lock, event: u8, p: u8) -> (Lock, Vec<u8>) {
 pub fn of(schedule: &[u8]) -> Option<Verdict> {
     let mut verdict = Verdict::new();
     let (log, _) = bench::follow(schedule, |h| verdict.event(h));
-    // The log begins with the header as read, unless line 1 is refused; then it is a 05 line, which is no such line.
+    // The log begins with the header's numbers, unless line 1 is refused; then it is a 05 line, which is no such line.
     let [_, edition, n, _] = frame::read(&log, 1).ok()?;
     Some(Verdict { edition, n, ..verdict })
 }
