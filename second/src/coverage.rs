@@ -160,6 +160,7 @@ pub fn print() -> (String, bool) {
     let mut raises_at = [0u64; PLACES.len()];
     let mut refusals = [0u64; 10];
     let mut refusals_old = [0u64; 10];
+    let mut refusals_lowered = [0u64; 10];
     for i in 0..random::SCHEDULES {
         let (_, refusal) = bench::follow(&random::schedule(i), |h| {
             let p = h.processor as usize;
@@ -171,7 +172,8 @@ pub fn print() -> (String, bool) {
             }
         });
         refusals[refusal as usize] += 1;
-        refusals_old[refusal as usize] += (i >= random::FIRST_OLD) as u64;
+        refusals_old[refusal as usize] += (random::edition(i) == OLD) as u64;
+        refusals_lowered[refusal as usize] += (i >= random::FIRST_LOWERED) as u64;
     }
 
     let mut text = String::new();
@@ -207,6 +209,8 @@ pub fn print() -> (String, bool) {
     for refusal in 1..refusals.len() {
         line(format!("refusal {:<39}", refusal), refusals[refusal], None);
         line(format!("refusal {}{:<38}", refusal, ", of those made for old"), refusals_old[refusal], None);
+        let lowered = ", of those in lower or mixed case";
+        line(format!("refusal {}{:<38}", refusal, lowered), refusals_lowered[refusal], None);
     }
 
     text += &format!("schedules without a refusal: {} of {}\n", refusals[0], random::SCHEDULES);

@@ -3,6 +3,7 @@
 mod answers;
 mod bench;
 mod canon;
+mod case;
 mod cell;
 mod coverage;
 mod edges;
@@ -26,14 +27,14 @@ use std::process::exit;
 use watch::Goal;
 
 const USAGE: &str = "usage: second              a schedule on standard input, its log on standard output
-       second random       the sizes and digests of the 640 random logs
+       second random       the sizes and digests of the 800 random logs
        second schedule I   random schedule I
        second handed       the digests of what comes back for 78,000 states handed in at random
-       second coverage     how often the 640 schedules take each side of the step table, and the states handed in
+       second coverage     how often the 800 schedules take each side of the step table, and the states handed in
                            each side of the tests of soundness
        second verdict      who waits and who is passed over in one schedule on standard input
-       second verdicts     the same for the 640 random schedules
-       second order        what the 640 random schedules show of demand 3, and of two never being inside together
+       second verdicts     the same for the 800 random schedules
+       second order        what the 800 random schedules show of demand 3, and of two never being inside together
        second order one    the same for one schedule on standard input
        second reachable N  all states of N processors that can be reached from fresh, N from 1 to 3
        second shortest N   the least number of events in which the drawn edition lets a waiter of N processors that
