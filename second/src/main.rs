@@ -2,6 +2,7 @@
 
 mod answers;
 mod bench;
+mod bytes;
 mod canon;
 mod case;
 mod cell;
@@ -30,6 +31,7 @@ const USAGE: &str = "usage: second              a schedule on standard input, it
        second random       the sizes and digests of the 800 random logs
        second schedule I   random schedule I
        second handed       the digests of what comes back for 78,000 states handed in at random
+       second bytes        the sizes and digests of the logs for every pair of bytes, and for every byte of a line
        second coverage     how often the 800 schedules take each side of the step table, and the states handed in
                            each side of the tests of soundness
        second verdict      who waits and who is passed over in one schedule on standard input
@@ -61,6 +63,7 @@ fn main() {
             Err(_) => usage(),
         },
         ["handed"] => put(handed::print().as_bytes()),
+        ["bytes"] => put(bytes::print().as_bytes()),
         ["coverage"] => {
             let (schedules, all_schedules) = coverage::print();
             let (handed_in, all_handed_in) = answers::print();
