@@ -12,7 +12,7 @@ const PLACES: u8 = 18;
 
 /// A byte as a digit. The standard library is asked and not frame.rs: a fault there must not change the schedules that
 /// are to show it.
-fn digit(byte: u8) -> Option<u8> {
+pub fn digit(byte: u8) -> Option<u8> {
     (byte as char).to_digit(16).map(|value| value as u8)
 }
 
@@ -33,10 +33,15 @@ fn place(at: u8, b: u8) -> Vec<u8> {
 }
 
 /// The printed lines in order: the number of each, and its 256 schedules.
-pub fn lines() -> impl Iterator<Item = (u8, Vec<Vec<u8>>)> {
+fn lines() -> impl Iterator<Item = (u8, Vec<Vec<u8>>)> {
     let pairs = (0..=255).map(|a| (a, (0..=255).map(|b| pair(a, b)).collect()));
     let places = (0..PLACES).map(|at| (at, (0..=255).map(|b| place(at, b)).collect()));
     pairs.chain(places)
+}
+
+/// All schedules, in order.
+pub fn schedules() -> impl Iterator<Item = Vec<u8>> {
+    lines().flat_map(|(_, schedules)| schedules)
 }
 
 /// A log, or nothing where the bench fails in the middle, as it can on a line that should have been refused.

@@ -1,6 +1,15 @@
-//! Case: the letters A to F of a text lowered to a to f. Other letters stay, as they are no digits.
+//! Case: the letters of a text raised to A to F, or lowered to a to f. Other letters stay, as they are no digits.
 
 use crate::random::Random;
+
+/// Each letter a to f raised.
+pub fn raised(text: &[u8]) -> Vec<u8> {
+    let raise_letter = |&byte: &u8| match byte {
+        b'a'..=b'f' => byte.to_ascii_uppercase(),
+        _ => byte,
+    };
+    text.iter().map(raise_letter).collect()
+}
 
 /// Each letter A to F lowered.
 pub fn lowered(text: &[u8]) -> Vec<u8> {

@@ -1,5 +1,6 @@
 //! The second program: an independent lockbench, and what holds the random schedules to account.
 
+mod alike;
 mod answers;
 mod bench;
 mod bytes;
@@ -15,6 +16,7 @@ mod order;
 mod overtaking;
 mod random;
 mod reachable;
+mod readings;
 mod report;
 mod shortest;
 mod sound;
@@ -32,8 +34,8 @@ const USAGE: &str = "usage: second              a schedule on standard input, it
        second schedule I   random schedule I
        second handed       the digests of what comes back for 78,000 states handed in at random
        second bytes        the sizes and digests of the logs for every pair of bytes, and for every byte of a line
-       second coverage     how often the 800 schedules take each side of the step table, and the states handed in
-                           each side of the tests of soundness
+       second coverage     how often the 800 schedules take each side of the step table, the states handed in
+                           each side of the tests of soundness, and which digits in which case the reader meets
        second verdict      who waits and who is passed over in one schedule on standard input
        second verdicts     the same for the 800 random schedules
        second order        what the 800 random schedules show of demand 3, and of two never being inside together
@@ -65,9 +67,9 @@ fn main() {
         ["handed"] => put(handed::print().as_bytes()),
         ["bytes"] => put(bytes::print().as_bytes()),
         ["coverage"] => {
-            let (schedules, all_schedules) = coverage::print();
-            let (handed_in, all_handed_in) = answers::print();
-            judge((schedules + "\n" + &handed_in, all_schedules && all_handed_in));
+            let parts = [coverage::print(), answers::print(), readings::print(), alike::print()];
+            let texts: Vec<&str> = parts.iter().map(|(text, _)| text.as_str()).collect();
+            judge((texts.join("\n"), parts.iter().all(|(_, good)| *good)));
         }
         ["verdict"] => try_put(verdict::print(&get())),
         ["verdicts"] => try_put(verdict::print_all()),

@@ -155,11 +155,16 @@ pub fn schedule(i: u64) -> Vec<u8> {
     text
 }
 
+/// All schedules, in order.
+pub fn schedules() -> impl Iterator<Item = Vec<u8>> {
+    (0..SCHEDULES).map(schedule)
+}
+
 /// What is printed for all schedules.
 pub fn print() -> Vec<u8> {
     let mut out = Vec::new();
-    for i in 0..SCHEDULES {
-        let log = bench::log(&schedule(i));
+    for (i, schedule) in (0..).zip(schedules()) {
+        let log = bench::log(&schedule);
         out.extend_from_slice(format!("{} {} {}\n", i, log.len(), digest(&log)).as_bytes());
         if i % 120 == 5 || i % 120 == 7 {
             out.extend_from_slice(&log);

@@ -12,6 +12,16 @@ impl Report {
         self.text += "\n";
     }
 
+    /// The head of a table with a column for the random schedules and one for those of bytes.rs.
+    pub fn head(&mut self, words: &str) {
+        self.line(&format!("{:<58}{:>9}{:>9}", words, "random", "bytes"));
+    }
+
+    /// A line of it.
+    pub fn columns(&mut self, words: &str, numbers: [u64; 2]) {
+        self.line(&format!("{:<58}{:>9}{:>9}", words, numbers[0], numbers[1]));
+    }
+
     /// Notes a count that is below the least wanted of it.
     pub fn demand(&mut self, count: u64, least: u64, what: &str) {
         if count < least {
