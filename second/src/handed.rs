@@ -46,8 +46,8 @@ pub fn edition_has(edition: u8, place: u8) -> bool {
 /// Whether a place needs a processor in a private cell.
 pub fn needs(place: u8, cell: Cell) -> bool {
     match cell {
-        Cell::Pred => (ARM..=CLAIM).contains(&place),
-        Cell::Succ => (HAND..=LIFT).contains(&place) || place == REREAD,
+        Cell::Pred => matches!(place, ARM..=CLAIM),
+        Cell::Succ => matches!(place, HAND..=LIFT | REREAD),
         Cell::Nx => place == TAKE,
         _ => false,
     }
