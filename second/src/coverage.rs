@@ -113,7 +113,7 @@ fn succ(lock: &Lock, p: usize) -> &Row {
 }
 
 /// Where a raise is counted by its place too: "changes nothing" is said of a step at 28, not of a raise. These runs
-/// come there with the flag set only; the states handed in have both.
+/// come to 28 with the flag set only; the states handed in have both.
 const RAISED_AT: [u8; 2] = [REREAD, LOST];
 
 /// Why a side cannot be taken, if it cannot.
