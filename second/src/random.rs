@@ -165,7 +165,11 @@ pub fn print() -> Vec<u8> {
     let mut out = Vec::new();
     for (i, schedule) in (0..).zip(schedules()) {
         let log = bench::log(&schedule);
-        out.extend_from_slice(format!("{} {} {}\n", i, log.len(), digest(&log)).as_bytes());
+        out.extend_from_slice(format!("{} {} {}", i, log.len(), digest(&log)).as_bytes());
+        if i >= FIRST_LOWERED {
+            out.extend_from_slice(format!(" {}", digest(&schedule)).as_bytes());
+        }
+        out.push(b'\n');
         if i % 120 == 5 || i % 120 == 7 {
             out.extend_from_slice(&log);
         }
@@ -173,7 +177,7 @@ pub fn print() -> Vec<u8> {
     out
 }
 
-/// The digest of a log, or of other bytes.
+/// The digest of a log, of a schedule, or of other bytes.
 pub fn digest(log: &[u8]) -> u64 {
     log.iter().fold(7, |h, &b| (h * 257 + b as u64 + 1) % 4294967291)
 }

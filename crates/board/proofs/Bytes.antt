@@ -9,17 +9,16 @@ use mathlib.Core.Path.{_≡_, sym, ap, _∙_}
 use mathlib.Core.Logic.{⊎-elim}
 use mathlib.Core.Bool.{Bool, true, false, cond}
 use mathlib.Core.List.{List}
-use lib.ListN.{length, take, length-append}
-use lib.Seq.{length-take-le}
+use lib.ListN.{length, length-append}
 use lib.Dec.{eqb, leb, ltb}
-use borrow.Author.Tests.{ne-eqb, eqb-true}
-use Rattle.lock.specs.declared.Answer.{Answer}
+use borrow.Author.Tests.{ne-eqb}
 use Rattle.lock.specs.Event.{fresh}
 use Rattle.frame.specs.Reading.{Told, reads, restOf}
-use Rattle.frame.specs.Writing.{writes}
+use Rattle.frame.specs.Writing.{writes, headerLine}
+use Rattle.frame.proofs.Proved.{lengths-are-known}
 use Rattle.bench.specs.Log.{longest, begun, opened, logOf, logFrom, second, third}
 use Rattle.bench.specs.Lent.{roomFor, logged}
-use Rattle.bench.proofs.Sizes.{cases, refusal-size, whole-nine}
+use Rattle.bench.proofs.Sizes.{cases, refusal-size}
 use Rattle.board.specs.Written.{written}
 
 all-or-none : (b : Bool) (n r : ℕ) → r ≡ cond b 0 10 → cond (eqb r 0) n 0 ≡ cond b n 0
@@ -39,21 +38,26 @@ module _ (line out : List ℕ) (r : ℕ) (e : r ≡ writes line out) where
   pub line-absent : eqb r 0 ≡ false → 0 ≡ written line out
   line-absent h = told false h
 
-begun-size : (text : List ℕ) (a : Answer) → 9 ≤ length text → 9 ≤ length (begun text a)
+begun-size : (text : List ℕ) (edition n : ℕ) → 9 ≤ length (begun text edition n)
 unfolding begun
-begun-size text a h =
+begun-size text edition n =
+    let a = fresh edition n in
     ⊎-elim
     (λ (e : eqb (a .refusal) 0 ≡ true).
     simp e
-    (omega (arith, length-append (take 9 text) (logFrom (length text) (a .state) 0 (restOf text)), length-take-le 9 text h)))
+    (omega (
+      arith,
+      length-append (headerLine edition n) (logFrom (length text) (a .state) 0 (restOf text)),
+      lengths-are-known .header edition n,
+    )))
     (λ (e : eqb (a .refusal) 0 ≡ false). simp e (omega (arith, refusal-size (a .refusal) 1)))
     (cases (eqb (a .refusal) 0))
 
-opened-size : (text : List ℕ) (t : Told) → (t .refusal ≡ 0 → 9 ≤ length text) → 9 ≤ length (opened text t)
+opened-size : (text : List ℕ) (t : Told) → 9 ≤ length (opened text t)
 unfolding opened
-opened-size text t h =
+opened-size text t =
     ⊎-elim
-    (λ (e : eqb (t .refusal) 0 ≡ true). simp e (begun-size text (fresh (second t) (third t)) (h (eqb-true (t .refusal) 0 e))))
+    (λ (e : eqb (t .refusal) 0 ≡ true). simp e (begun-size text (second t) (third t)))
     (λ (e : eqb (t .refusal) 0 ≡ false). simp e (omega (arith, refusal-size (t .refusal) 1)))
     (cases (eqb (t .refusal) 0))
 
@@ -62,7 +66,7 @@ unfolding logOf
 log-size text =
     ⊎-elim
     (λ (e : ltb longest (length text) ≡ true). simp e (omega (arith, refusal-size 1 0)))
-    (λ (e : ltb longest (length text) ≡ false). simp e (opened-size text (reads text true) (whole-nine text true)))
+    (λ (e : ltb longest (length text) ≡ false). simp e (opened-size text (reads text true)))
     (cases (ltb longest (length text)))
 
 pub zero-is-short : (text out : List ℕ) → eqb ((logged text out) .length) 0 ≡ ltb (length out) (roomFor (length text))

@@ -65,15 +65,22 @@ fn run(i: u64, schedule: &mut [u8], log: &mut [u8]) {
 
 fn tell(i: u64, schedule: &[u8], length: usize, log: &mut [u8]) {
     if length <= schedule.len() {
-        let logged = bench::bench(&schedule[..length], log);
+        let made = &schedule[..length];
+        let logged = bench::bench(made, log);
         let n = logged.length;
-        show(i, &log[..n]);
+        show(i, made, &log[..n]);
     }
 }
 
-// The number of a schedule, its log's length and digest; and the log itself for a few.
-fn show(i: u64, log: &[u8]) {
-    print(i, log.len() as u64, digest::with_log(digest::NOTHING, log));
+// The number of a schedule, its log's length and digest; the schedule's own digest, where its letters' case is drawn; and the
+// log itself for a few.
+fn show(i: u64, schedule: &[u8], log: &[u8]) {
+    put(i, log.len() as u64, digest::of(log));
+    if plan::CASED_FROM <= i {
+        io::write_all(STDOUT_FILENO, b" ");
+        io::print_decimal(STDOUT_FILENO, digest::of(schedule));
+    }
+    io::write_all(STDOUT_FILENO, b"\n");
     if i % 120 == 5 || i % 120 == 7 {
         io::write_all(STDOUT_FILENO, log);
     }
@@ -81,10 +88,14 @@ fn show(i: u64, log: &[u8]) {
 
 // One line of three numbers.
 fn print(first: u64, second: u64, third: u64) {
+    put(first, second, third);
+    io::write_all(STDOUT_FILENO, b"\n");
+}
+
+fn put(first: u64, second: u64, third: u64) {
     io::print_decimal(STDOUT_FILENO, first);
     io::write_all(STDOUT_FILENO, b" ");
     io::print_decimal(STDOUT_FILENO, second);
     io::write_all(STDOUT_FILENO, b" ");
     io::print_decimal(STDOUT_FILENO, third);
-    io::write_all(STDOUT_FILENO, b"\n");
 }

@@ -6,11 +6,11 @@ use crate::state;
 const OLD_FROM: u64 = 480;
 
 // The schedules from this one on are in lower or in mixed case, and of all editions.
-const SMALL_FROM: u64 = 640;
+pub const CASED_FROM: u64 = 640;
 
 const EDITIONS: u64 = state::OLD + 1;
 
-// The case of a schedule's letters: upper for those before `SMALL_FROM` and for no other, then lower; the third is mixed.
+// The case of a schedule's letters: upper for those before `CASED_FROM` and for no other, then lower; the third is mixed.
 pub const UPPER: u64 = 0;
 
 pub const LOWER: u64 = 1;
@@ -58,7 +58,7 @@ fn edition(i: u64) -> u64 {
     if i < OLD_FROM {
         return i % state::OLD;
     }
-    if i < SMALL_FROM {
+    if i < CASED_FROM {
         return state::OLD;
     }
     i / 4 % EDITIONS
@@ -91,7 +91,7 @@ fn harmed(d: Dice, i: u64) -> Dice {
 
 // the case of the letters
 fn lettered(d: Dice, i: u64) -> Dice {
-    if i < SMALL_FROM {
+    if i < CASED_FROM {
         return d.giving(UPPER);
     }
     d.roll(2).plus(LOWER)

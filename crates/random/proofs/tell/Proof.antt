@@ -6,13 +6,13 @@ use lib.Seq.{length-take-le}
 use Rattle.random.proofs.tell.Statement.{statement}
 use Rattle.random.proofs.tell.Tie as tie
 
-slice-aggregate-bench : tie.Need-slice-aggregate-bench
-slice-aggregate-bench c =
+slice-aggregate-made : tie.Need-slice-aggregate-made
+slice-aggregate-made c =
     let a = c .before .before .before .before .args in
     sym (length-take-le (a .length) (a .schedule .now) (omega arith))
 
 pub tell-spec : {M : Type 1} → statement M
 tell-spec =
     tie.close
-    (tie.spec slice-aggregate-bench (λ c κs. search needs) (λ c. search needs) (λ c. search needs) (λ c κs. search needs)
+    (tie.spec slice-aggregate-made (λ c κs. search needs) (λ c. search needs) (λ c. search needs) (λ c κs. search needs)
     (λ c. search needs) (λ c. search needs) (λ c. search needs))
