@@ -7,14 +7,14 @@
 use Prim.Native.Nat.{ℕ, zero, suc, _+_, _≤_}
 use native.Mathlib.Omega.{arith}
 use mathlib.Core.Path.{_≡_, refl, sym, ap, _∙_}
-use mathlib.Core.Bool.{true, false, cond}
+use mathlib.Core.Bool.{true, cond}
 use mathlib.Core.List.{List, [], _∷_, _++_}
 use lib.ListN.{length, getD, take}
 use lib.Dec.{eqb, ltb}
 use Rattle.choice.specs.Every.{every}
 use Rattle.lock.specs.declared.LockState.{LockState}
 use Rattle.lock.specs.Event.{fresh}
-use Rattle.frame.specs.Case.{upperOf, upperCase}
+use Rattle.frame.specs.Case.{upperCase}
 use Rattle.frame.specs.Pairs.{valueOf, digitOf, pairAt, pairsFrom, sumOf, checkOf}
 use Rattle.frame.specs.Reading.{Told, isTorn, areDigits, readAs, reads, restOf}
 use Rattle.frame.specs.Writing.{digitsOf, lineOf, headerLine}

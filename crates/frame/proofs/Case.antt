@@ -18,12 +18,12 @@ use mathlib.Core.List.{List, [], _∷_, _++_}
 use lib.ListN.{length, getD, take, drop, length-map, length-take, List·getD-map}
 use lib.Seq.{getD-take}
 use lib.Dec.{leb, ltb, eqb}
-use borrow.Author.Tests.{leb-true, ltb-true, ltb-false, lt-ltb, le-ltb, eqb-true}
+use borrow.Author.Tests.{leb-true, ltb-true, ltb-false, lt-ltb, eqb-true}
 use Rattle.choice.specs.Every.{every}
 use Rattle.choice.proofs.Numbers.{every-at}
 use Rattle.choice.proofs.Tests.{and-left, and-right, implies, implied, beq-eq}
 use Rattle.frame.specs.Case.{isLower, upperOf, upperCase, EqualUpToCase}
-use Rattle.frame.specs.Pairs.{lineFeed, isDigit, valueOf, digitOf, byteAt, pairAt, pairsFrom, sumOf, checkOf}
+use Rattle.frame.specs.Pairs.{lineFeed, isDigit, valueOf, byteAt, pairAt, pairsFrom, checkOf}
 use Rattle.frame.specs.Reading.{bytesOf, isTorn, areDigits, readAs}
 use Rattle.frame.specs.Writing.{Bytes, digitsOf, lineOf}
 use Rattle.frame.specs.Laws.{InUpperCase}

@@ -12,32 +12,8 @@ Inv-loop log₀ a₀ log a = (a ≤ 256) × (length log ≡ length log₀)
 abbrev μ-loop : tie.MeasureT-loop
 μ-loop log₀ a₀ log a = 256 - a
 
-loop-holds : tie.Need-loop-holds Inv-loop μ-loop
-loop-holds c = search needs
-
-cast-first : tie.Need-cast-first Inv-loop μ-loop
-cast-first c = search needs
-
-swept-requires : tie.Need-swept-requires Inv-loop μ-loop
-swept-requires c κs = search needs
-
-print-requires : tie.Need-print-requires Inv-loop μ-loop
-print-requires c κs = search needs
-
-add-a : tie.Need-add-a Inv-loop μ-loop
-add-a c = search needs
-
-loop-less : tie.Need-loop-less Inv-loop μ-loop
-loop-less c = search needs
-
-loop-again : tie.Need-loop-again Inv-loop μ-loop
-loop-again c = search needs
-
-same-length : tie.Need-same-length Inv-loop μ-loop
-same-length c = search needs
-
-returns : tie.Need-returns Inv-loop μ-loop
-returns c = search needs
-
 pub pairs-spec : {M : Type 1} → statement M
-pairs-spec = tie.close (tie.spec Inv-loop μ-loop loop-holds cast-first swept-requires print-requires add-a loop-less loop-again same-length returns)
+pairs-spec =
+    tie.close
+    (tie.spec Inv-loop μ-loop (λ c. search needs) (λ c. search needs) (λ c κs. search needs) (λ c κs. search needs)
+    (λ c. search needs) (λ c. search needs) (λ c. search needs) (λ c. search needs) (λ c. search needs))
