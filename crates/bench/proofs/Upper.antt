@@ -16,7 +16,7 @@ use Rattle.choice.proofs.Tests.{clash, and-left, and-right, by-test}
 use Rattle.lock.specs.declared.Row.{Row}
 use Rattle.lock.specs.declared.LockState.{LockState}
 use Rattle.lock.specs.declared.Answer.{Answer}
-use Rattle.lock.specs.State.{processors, editions, isNone, row}
+use Rattle.lock.specs.State.{processors, editions, isNone, RP, row}
 use Rattle.lock.specs.Sound.{places, noneOrBelow, hasPlace, sound}
 use Rattle.lock.specs.Event.{isStep, isRaise, fresh, happens}
 use Rattle.lock.specs.Kept.{Whole}
@@ -92,7 +92,7 @@ line-small s (b ∷ text) =
 
 -- the row of a processor of a sound state
 
-none-small : (n q : ℕ) → n ≤ 16 → noneOrBelow n q ≡ true → q < 256
+none-small : (n q : ℕ) → n ≤ processors → noneOrBelow n q ≡ true → q < 256
 none-small n q h e =
     ⊎-elim (λ (t : isNone q ≡ true). omega (arith, eqb-true q 255 t))
     (λ (t : isNone q ≡ false). omega (arith, ltb-true q n (simp t at e)))
@@ -120,25 +120,15 @@ pub row-upper : (s : LockState) (event p : ℕ) → Whole s → p < s .n → Upp
 unfolding shown rowShown
 row-upper s event p w below =
     let r = ready w below in
-    let n-small : s .n ≤ 16 = leb-true (s .n) 16 (r .base .most) in
+    let n-small : s .n ≤ processors = leb-true (s .n) processors (r .base .most) in
     let cells = r .base .rows p .cells below in
     let own = row s p in
-    line-upper (3 ∷ p ∷ own .place ∷ s .tail ∷ own .locked ∷ own .next ∷ marksOf own event ∷ []) (
-      omega arith,
-      (
-        omega arith,
-        (
-          place-small (s .edition) (own .place) (r .edition),
-          (
-            none-small (s .n) (s .tail) n-small (r .base .tail),
-            (
-              omega (arith, leb-true (own .locked) 3 (cells .locked)),
-              (none-small (s .n) (own .next) n-small (cells .next), (marks-small own event, tt)),
-            ),
-          ),
-        ),
-      ),
-    )
+    let locked : own .locked < 256 = omega (arith, leb-true (own .locked) RP (cells .locked)) in
+    let next = none-small (s .n) (own .next) n-small (cells .next) in
+    let tail = none-small (s .n) (s .tail) n-small (r .base .tail) in
+    let place = place-small (s .edition) (own .place) (r .edition) in
+    line-upper (3 ∷ p ∷ own .place ∷ s .tail ∷ own .locked ∷ own .next ∷ marksOf own event ∷ [])
+    (omega arith, (omega arith, (place, (tail, (locked, (next, (marks-small own event, tt)))))))
 
 -- along a run
 
