@@ -18,7 +18,7 @@ const BASE: u8 = 16;
 // What a byte that is no digit is taken for.
 const NO_DIGIT: u8 = 16;
 
-// What a lower-case letter has more than its upper-case one: one bit.
+// The bit by which a lower-case letter differs from its upper-case one.
 const CASE: u8 = 32;
 
 // The bytes that lie between 9 and A.
