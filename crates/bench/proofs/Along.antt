@@ -18,9 +18,8 @@ use Rattle.lock.specs.State.{row}
 use Rattle.lock.specs.Event.{happens, isStep}
 use Rattle.lock.specs.Run.{Call, after, run, stepsOf, enters}
 use Rattle.frame.specs.Reading.{reads, restOf}
-use Rattle.frame.specs.Writing.{headerLine}
 use Rattle.bench.specs.Log.{counted, marksOf, marks, shown, logOf}
-use Rattle.bench.specs.Bridge.{callOf, callsFrom, callsOf, rowsOf, areRead, areAccepted, editionOf, processorsOf, firstState, firstRefusal, lineRefusal, heardFrom, ending, Accepted, EntryMark}
+use Rattle.bench.specs.Bridge.{callOf, callsFrom, callsOf, rowsOf, areRead, areAccepted, firstState, firstLine, firstRefusal, lineRefusal, heardFrom, ending, Accepted, EntryMark}
 use Rattle.bench.proofs.Hearing.{behind, log-is-run}
 
 -- where every line is read and every call accepted, all of them are heard
@@ -53,7 +52,7 @@ calls-whole (suc fuel) (b ∷ text) h =
 
 pub accepted-is-run : (text : List ℕ) → Accepted text →
     logOf text
-    ≡ headerLine (editionOf text) (processorsOf text)
+    ≡ firstLine text
     ++ (rowsOf (firstState text) (callsOf text) ++ counted (length (callsOf text)))
 unfolding lineRefusal
 accepted-is-run text h =
@@ -62,7 +61,7 @@ accepted-is-run text h =
     let whole = calls-whole (length text) (restOf text) (omega (arith, length-drop 9 text)) in
     let first : firstRefusal text ≡ 0 = simp (eq-eqb (reads text true .refusal) 0 (h .line-is)) (h .state-is) in
     log-is-run text .line-1-accepted (h .length-is) first
-    ∙ ap (λ (l : List ℕ). headerLine (editionOf text) (processorsOf text) ++ l)
+    ∙ ap (λ (l : List ℕ). firstLine text ++ l)
     (ap
     (λ (cs : List Call).
     rowsOf s cs ++ ending (lineRefusal (run s cs) (drop (9 * length cs) (restOf text))) (length cs)) same

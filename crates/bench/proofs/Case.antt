@@ -22,7 +22,7 @@ use Rattle.frame.proofs.Refusals.{by-order, is-accepted}
 use Rattle.frame.proofs.Back.{line-is-written}
 use Rattle.frame.proofs.Case.{upper-length, upper-drop, read-raised}
 use Rattle.bench.specs.Log.{longest, refusedAt, Turn, followed, turnOf, logFrom, begun, opened, logOf}
-use Rattle.bench.specs.Bridge.{editionOf, processorsOf, rowsOf, firstState, firstRefusal, heardOf, refusalOf, ending}
+use Rattle.bench.specs.Bridge.{editionOf, processorsOf, firstRefusal, firstLine, laterLines}
 use Rattle.bench.specs.Case.{CaseIsSharp}
 use Rattle.bench.proofs.Hearing.{first-is-read, log-is-run}
 
@@ -30,7 +30,6 @@ turn-raised : (s : LockState) (line : ℕ) (text : List ℕ) → turnOf s line (
 unfolding turnOf
 turn-raised s line text = ap (followed s line) (read-raised 3 2 text)
 
--- what a turn makes of the log, by its turn and by what follows
 later-raised : (fuel : ℕ) (s : LockState) (accepted : ℕ) (text : List ℕ) →
     logFrom fuel s accepted (upperCase text) ≡ logFrom fuel s accepted text
 unfolding logFrom upperCase
@@ -69,7 +68,7 @@ log-raised text =
     (ap (opened (upperCase text)) (read-raised 3 1 text) ∙ opened-raised text (reads text true))
 
 pub line-1-is : (text : List ℕ) → reads text true .refusal ≡ 0 →
-    upperCase (take 9 text) ≡ headerLine (editionOf text) (processorsOf text)
+    upperCase (take 9 text) ≡ firstLine text
 unfolding pairsFrom
 line-1-is text e =
     let h = by-order 4 1 text .none .0 e in
@@ -80,12 +79,10 @@ line-1-is text e =
 
 pub as-before : (text : List ℕ) → upperCase (take 9 text) ≡ take 9 text → length text ≤ longest →
     firstRefusal text ≡ 0 →
-    logOf text
-    ≡ take 9 text
-    ++ (rowsOf (firstState text) (heardOf text) ++ ending (refusalOf text) (length (heardOf text)))
+    logOf text ≡ take 9 text ++ laterLines text
 as-before text e low h =
     log-is-run text .line-1-accepted low h
-    ∙ ap (λ (l : List ℕ). l ++ (rowsOf (firstState text) (heardOf text) ++ ending (refusalOf text) (length (heardOf text))))
+    ∙ ap (λ (l : List ℕ). l ++ laterLines text)
     (sym (line-1-is text (first-is-read text h)) ∙ e)
 
 pub sharp : CaseIsSharp

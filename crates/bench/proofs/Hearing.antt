@@ -10,13 +10,13 @@ use Prim.Native.Nat.{ℕ, zero, suc, _+_, _*_, _≤_, _<_}
 use native.Mathlib.Omega.{arith}
 use mathlib.Core.Path.{_≡_, refl, sym, ap, _∙_, subst}
 use mathlib.Core.Logic.{_≢_, ⊎-elim}
-use mathlib.Core.Bool.{Bool, true, false}
+use mathlib.Core.Bool.{true, false}
 use mathlib.Core.List.{List, [], _∷_, _++_, append-assoc, append-nil}
 use lib.ListN.{length, drop, length-append, length-drop}
 use lib.Seq.{drop-drop}
 use lib.Dec.{eqb}
 use borrow.Author.Tests.{eqb-true, eq-eqb, ne-eqb, lt-ltb, le-ltb}
-use Rattle.choice.proofs.Tests.{clash}
+use Rattle.choice.proofs.Tests.{cases, clash}
 use Rattle.lock.specs.declared.LockState.{LockState}
 use Rattle.lock.specs.declared.Answer.{Answer}
 use Rattle.lock.specs.Event.{fresh, happens}
@@ -26,10 +26,9 @@ use Rattle.lock.specs.Claims.{made, IsRun}
 use Rattle.lock.proofs.Keeping.{fresh-kept}
 use Rattle.lock.proofs.Roof.Callers.{calls-are-a-run}
 use Rattle.frame.specs.Reading.{reads, restOf}
-use Rattle.frame.specs.Writing.{headerLine}
 use Rattle.bench.specs.Log.{longest, refusedAt, counted, shown, stopped, answered, followed, turnOf, logFrom, begun, opened, logOf}
-use Rattle.bench.specs.Bridge.{callOf, rowsOf, areAccepted, editionOf, processorsOf, firstState, firstRefusal, lineRefusal, heardFrom, heardOf, unheardOf, refusalOf, ending, LogIsARun}
-use Rattle.bench.proofs.Sizes.{cases, shown-size}
+use Rattle.bench.specs.Bridge.{callOf, rowsOf, areAccepted, editionOf, processorsOf, firstState, firstRefusal, lineRefusal, heardFrom, heardOf, refusalOf, ending, firstLine, laterLines, LogIsARun}
+use Rattle.bench.proofs.Sizes.{shown-size}
 use Rattle.bench.proofs.Frames.{shows}
 
 module _ (s : LockState) (line b : ℕ) (text : List ℕ) where
@@ -231,9 +230,7 @@ module _ (text : List ℕ) where
       (cases (eqb unread-1 0))
 
   accepted-first : length text ≤ longest → firstRefusal text ≡ 0 →
-      logOf text
-      ≡ headerLine (editionOf text) (processorsOf text)
-      ++ (rowsOf (firstState text) (heardOf text) ++ ending (refusalOf text) (length (heardOf text)))
+      logOf text ≡ firstLine text ++ laterLines text
   unfolding logOf opened begun
   accepted-first low h =
       let count : 0 + length (heardOf text) ≡ length (heardOf text) = omega arith in
@@ -243,7 +240,7 @@ module _ (text : List ℕ) where
         eq-eqb (made-1 .refusal) 0 (first-made h),
         first-state h,
       )
-      (ap (λ (l : List ℕ). headerLine (editionOf text) (processorsOf text) ++ l)
+      (ap (λ (l : List ℕ). firstLine text ++ l)
       (later-heard (length text) (firstState text) 0 (restOf text) (omega (arith, length-drop 9 text))
       ∙ ap (λ (m : ℕ). rowsOf (firstState text) (heardOf text) ++ ending (refusalOf text) m) count))
 

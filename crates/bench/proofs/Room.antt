@@ -11,6 +11,7 @@ use mathlib.Core.List.{List, [], _∷_}
 use lib.ListN.{length, length-append, length-drop}
 use lib.Dec.{eqb, ltb}
 use borrow.Author.Tests.{eqb-true}
+use Rattle.choice.proofs.Tests.{cases}
 use Rattle.lock.specs.declared.LockState.{LockState}
 use Rattle.lock.specs.Event.{fresh}
 use Rattle.frame.specs.Reading.{reads, restOf}
@@ -19,7 +20,7 @@ use Rattle.frame.proofs.Proved.{lengths-are-known}
 use Rattle.bench.specs.Log.{longest, second, third, turnOf, logFrom, begun, opened, logOf}
 use Rattle.bench.specs.Lent.{roomFor}
 use Rattle.bench.specs.Steps.{linesRoom}
-use Rattle.bench.proofs.Sizes.{cases, count-size, refusal-size, whole-nine, GoesOn, Stops, turn-size}
+use Rattle.bench.proofs.Sizes.{count-size, refusal-size, whole-nine, GoesOn, Stops, turn-size}
 
 pub later-fits : (fuel : ℕ) (s : LockState) (accepted : ℕ) (text : List ℕ) →
     length (logFrom fuel s accepted text) ≤ linesRoom text

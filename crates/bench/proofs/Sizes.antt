@@ -1,17 +1,17 @@
 -- How long the lines of a log are, and what a turn that goes on has read.
 --     row-size, shown-size, count-size, refusal-size   17, 17, 9 and 11 bytes
---     cases                                a test holds or fails
 --     whole-nine                           a line that is read without refusal has its nine bytes
 --     turn-size                            a turn goes on after 17 bytes, from nine of the text, or stops after 11
 -- Assumes nothing.
 use Prim.Native.Nat.{ℕ, _≤_}
-use mathlib.Core.Path.{_≡_, refl}
+use mathlib.Core.Path.{_≡_}
 use mathlib.Core.Logic.{_⊎_, inl, inr, ⊎-elim}
 use mathlib.Core.Bool.{Bool, true, false}
 use mathlib.Core.List.{List}
 use lib.ListN.{length}
 use lib.Dec.{eqb}
 use borrow.Author.Tests.{eqb-true}
+use Rattle.choice.proofs.Tests.{cases}
 use Rattle.lock.specs.declared.Row.{Row}
 use Rattle.lock.specs.declared.LockState.{LockState}
 use Rattle.lock.specs.declared.Answer.{Answer}
@@ -36,10 +36,6 @@ count-size accepted = lengths-are-known .count (high accepted) (low accepted)
 
 pub refusal-size : (refusal line : ℕ) → length (refusedAt refusal line) ≡ 11
 refusal-size refusal line = lengths-are-known .refusal refusal (high line) (low line)
-
-pub cases : (b : Bool) → (b ≡ true) ⊎ (b ≡ false)
-cases true = inl refl
-cases false = inr refl
 
 pub whole-nine : (text : List ℕ) (isFirst : Bool) → reads text isFirst .refusal ≡ 0 → 9 ≤ length text
 whole-nine text isFirst e = whole-line 4 text (by-order 4 (kindOf isFirst) text .none .0 e .0) .0

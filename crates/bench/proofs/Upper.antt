@@ -12,7 +12,7 @@ use mathlib.Core.List.{List, [], _∷_, _++_}
 use lib.ListN.{length, take}
 use lib.Dec.{eqb, ltb, leb}
 use borrow.Author.Tests.{eqb-true, eqb-false, ltb-true, ltb-false, leb-true, leb-false}
-use Rattle.choice.proofs.Tests.{clash, and-left, and-right, by-test}
+use Rattle.choice.proofs.Tests.{cases, clash, and-left, and-right, by-test}
 use Rattle.lock.specs.declared.Row.{Row}
 use Rattle.lock.specs.declared.LockState.{LockState}
 use Rattle.lock.specs.declared.Answer.{Answer}
@@ -27,13 +27,11 @@ use Rattle.lock.proofs.Keeping.{event-kept}
 use Rattle.lock.proofs.Waiting.Stepping.{size-after}
 use Rattle.frame.specs.Case.{upperCase}
 use Rattle.frame.specs.Reading.{kindOf, reads}
-use Rattle.frame.specs.Writing.{headerLine}
 use Rattle.frame.specs.Laws.{InUpperCase}
 use Rattle.frame.proofs.Refusals.{by-order}
 use Rattle.frame.proofs.Case.{upper-append, upper-twice, in-upper, line-upper}
 use Rattle.bench.specs.Log.{longest, high, low, refusedAt, counted, marksOf, rowShown, shown, logOf}
-use Rattle.bench.specs.Bridge.{rowsOf, areAccepted, editionOf, processorsOf, firstState, firstRefusal, lineRefusal, heardOf, unheardOf, refusalOf, ending}
-use Rattle.bench.proofs.Sizes.{cases}
+use Rattle.bench.specs.Bridge.{rowsOf, areAccepted, editionOf, processorsOf, firstState, firstRefusal, lineRefusal, heardOf, unheardOf, refusalOf, ending, firstLine}
 use Rattle.bench.proofs.Hearing.{first-is-read, first-whole, log-is-run}
 use Rattle.bench.proofs.Case.{line-1-is}
 
@@ -163,7 +161,7 @@ ending-upper refusal accepted h =
     by-test Upper (eqb refusal 0) (λ _. count-upper accepted) (λ _. refusal-upper refusal (accepted + 2) h)
 
 module _ (text : List ℕ) where
-  header-upper : firstRefusal text ≡ 0 → Upper (headerLine (editionOf text) (processorsOf text))
+  header-upper : firstRefusal text ≡ 0 → Upper (firstLine text)
   header-upper h =
       let is = line-1-is text (first-is-read text h) in
       ap upperCase (sym is) ∙ upper-twice (take 9 text) ∙ is
@@ -174,7 +172,7 @@ module _ (text : List ℕ) where
       let end = ending (refusalOf text) (length (heardOf text)) in
       let small = line-small (run (firstState text) (heardOf text)) (unheardOf text) in
       subst Upper (sym (log-is-run text .line-1-accepted fits h))
-      (both (headerLine (editionOf text) (processorsOf text)) (rows ++ end) (header-upper h)
+      (both (firstLine text) (rows ++ end) (header-upper h)
       (both rows end
       (rows-upper (firstState text) (heardOf text) (first-whole text h) (log-is-run text .heard-accepted))
       (ending-upper (refusalOf text) (length (heardOf text)) small)))

@@ -16,11 +16,11 @@ use lib.ListN.{length, drop, length-append}
 use lib.Seq.{length-take-le}
 use lib.Dec.{ltb}
 use borrow.Author.Tests.{ltb-false}
+use Rattle.choice.proofs.Tests.{cases}
 use Rattle.bench.specs.declared.Logged.{Logged}
 use Rattle.bench.specs.Log.{longest, refusedAt, logOf}
 use Rattle.bench.specs.Lent.{roomFor, logged, left, Counts}
 use Rattle.bench.specs.Steps.{filled, openedLog, linesRoom}
-use Rattle.bench.proofs.Sizes.{cases}
 
 eleven : (bytes : ℕ) → 11 ≤ roomFor bytes
 unfolding roomFor

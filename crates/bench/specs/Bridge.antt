@@ -86,17 +86,23 @@ refusalOf text = lineRefusal (run (firstState text) (heardOf text)) (unheardOf t
 abbrev pub ending : ℕ → ℕ → List ℕ
 ending refusal accepted = cond (eqb refusal 0) (counted accepted) (refusedAt refusal (accepted + 2))
 
+-- request [3]: "the 01 line as the writer gives it", of the numbers read
+abbrev pub firstLine : List ℕ → List ℕ
+firstLine text = headerLine (editionOf text) (processorsOf text)
+
+-- and what follows it: the rows along the run of the calls that are heard, and the end
+abbrev pub laterLines : List ℕ → List ℕ
+laterLines text = rowsOf (firstState text) (heardOf text) ++ ending (refusalOf text) (length (heardOf text))
+
 -- What the log of any text is, by what is refused first, and what the calls are that are heard.
 pub record LogIsARun (text : List ℕ) : Type 0 where
   -- "1 first"
   pub too-long : longest < length text → logOf text ≡ refusedAt 1 0
   -- "If line 1 is refused, 05 is the whole output."
   pub line-1-refused : length text ≤ longest → firstRefusal text ≢ 0 → logOf text ≡ refusedAt (firstRefusal text) 1
-  -- otherwise the 01 line of the numbers read, "the 03 lines, the 04 line. At the first refusal it prints 05 and stops."
+  -- otherwise the 01 line, "the 03 lines, the 04 line. At the first refusal it prints 05 and stops."
   pub line-1-accepted : length text ≤ longest → firstRefusal text ≡ 0 →
-      logOf text
-      ≡ headerLine (editionOf text) (processorsOf text)
-      ++ (rowsOf (firstState text) (heardOf text) ++ ending (refusalOf text) (length (heardOf text)))
+      logOf text ≡ firstLine text ++ laterLines text
   -- then edition and N are in range, so that the claims on runs speak of this one
   pub in-range : firstRefusal text ≡ 0 → AnyEdition (editionOf text) (processorsOf text)
   -- every call that is heard is accepted, and has its row of 17 bytes
@@ -136,7 +142,7 @@ abbrev pub AcceptedLogIsARun : Type 0
 AcceptedLogIsARun =
     (text : List ℕ) → Accepted text →
     logOf text
-    ≡ headerLine (editionOf text) (processorsOf text)
+    ≡ firstLine text
     ++ (rowsOf (firstState text) (callsOf text) ++ counted (length (callsOf text)))
 
 abbrev pub RowsFollowTheRun : Type 0

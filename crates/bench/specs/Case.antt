@@ -12,7 +12,7 @@ use lib.ListN.{length, take}
 use Rattle.frame.specs.Case.{upperCase, EqualUpToCase}
 use Rattle.frame.specs.Laws.{InUpperCase, lineWith}
 use Rattle.bench.specs.Log.{longest, counted, logOf}
-use Rattle.bench.specs.Bridge.{rowsOf, firstState, firstRefusal, heardOf, refusalOf, ending}
+use Rattle.bench.specs.Bridge.{firstRefusal, laterLines}
 
 pub record CaseDoesNotMatter : Type 0 where
   pub raised : (text : List ℕ) → logOf text ≡ logOf (upperCase text)
@@ -25,9 +25,7 @@ LogIsInUpperCase = (text : List ℕ) → InUpperCase (logOf text)
 abbrev pub UpperCaseAsBefore : Type 0
 UpperCaseAsBefore =
     (text : List ℕ) → upperCase (take 9 text) ≡ take 9 text → length text ≤ longest → firstRefusal text ≡ 0 →
-    logOf text
-    ≡ take 9 text
-    ++ (rowsOf (firstState text) (heardOf text) ++ ending (refusalOf text) (length (heardOf text)))
+    logOf text ≡ take 9 text ++ laterLines text
 
 -- 010001Fe alone: its log is that of 010001FE, and does not begin with line 1 as read
 pub record CaseIsSharp : Type 0 where

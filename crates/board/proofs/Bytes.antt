@@ -12,13 +12,14 @@ use mathlib.Core.List.{List}
 use lib.ListN.{length, length-append}
 use lib.Dec.{eqb, leb, ltb}
 use borrow.Author.Tests.{ne-eqb}
+use Rattle.choice.proofs.Tests.{cases}
 use Rattle.lock.specs.Event.{fresh}
 use Rattle.frame.specs.Reading.{Told, reads, restOf}
 use Rattle.frame.specs.Writing.{writes, headerLine}
 use Rattle.frame.proofs.Proved.{lengths-are-known}
 use Rattle.bench.specs.Log.{longest, begun, opened, logOf, logFrom, second, third}
 use Rattle.bench.specs.Lent.{roomFor, logged}
-use Rattle.bench.proofs.Sizes.{cases, refusal-size}
+use Rattle.bench.proofs.Sizes.{refusal-size}
 use Rattle.board.specs.Written.{written}
 
 all-or-none : (b : Bool) (n r : ℕ) → r ≡ cond b 0 10 → cond (eqb r 0) n 0 ≡ cond b n 0

@@ -1,4 +1,5 @@
 -- Laws of tests, for choices by a test and for tests joined by and, or and implies.
+--     cases                    every test comes out one way
 --     clash                    no test comes out both ways
 --     and-left, and-right      the halves of a conjunction; and-both the other way
 --     and-rest                 what a conjunction comes to whose first half holds
@@ -9,8 +10,13 @@
 -- Assumes nothing.
 use Prim.Native.Nat.{ℕ}
 use mathlib.Core.Path.{_≡_, refl}
+use mathlib.Core.Logic.{_⊎_, inl, inr}
 use mathlib.Core.Bool.{Bool, true, false, cond, not, _&&_, _||_, Bool·beq}
 use native.Mathlib.Omega.{arith}
+
+pub cases : (b : Bool) → (b ≡ true) ⊎ (b ≡ false)
+cases true = inl refl
+cases false = inr refl
 
 pub clash : {A : Type 0} {b : Bool} → b ≡ true → b ≡ false → A
 clash {A} {b} e f = absurd (let z : _≡_ {A = ℕ} 0 1 = cc in omega arith)

@@ -12,7 +12,7 @@
 use Prim.Native.Nat.{ℕ, zero, suc, _+_, _*_, _/_, _%_, _<_}
 use native.Mathlib.Omega.{arith}
 use mathlib.Core.Path.{_≡_, refl, sym, ap, _∙_}
-use mathlib.Core.Logic.{_⊎_, inl, inr, ⊎-elim}
+use mathlib.Core.Logic.{⊎-elim}
 use mathlib.Core.Bool.{Bool, true, false, not, _&&_, _||_, Bool·beq}
 use mathlib.Core.List.{List, [], _∷_, _++_}
 use lib.ListN.{length, getD, take, drop, length-map, length-take, List·getD-map}
@@ -21,7 +21,7 @@ use lib.Dec.{leb, ltb, eqb}
 use borrow.Author.Tests.{leb-true, ltb-true, ltb-false, lt-ltb, eqb-true}
 use Rattle.choice.specs.Every.{every}
 use Rattle.choice.proofs.Numbers.{every-at}
-use Rattle.choice.proofs.Tests.{and-left, and-right, implies, implied, beq-eq}
+use Rattle.choice.proofs.Tests.{cases, and-left, and-right, implies, implied, beq-eq}
 use Rattle.frame.specs.Case.{isLower, upperOf, upperCase, EqualUpToCase}
 use Rattle.frame.specs.Pairs.{lineFeed, isDigit, valueOf, byteAt, pairAt, pairsFrom, checkOf}
 use Rattle.frame.specs.Reading.{bytesOf, isTorn, areDigits, readAs}
@@ -29,10 +29,6 @@ use Rattle.frame.specs.Writing.{Bytes, digitsOf, lineOf}
 use Rattle.frame.specs.Laws.{InUpperCase}
 use Rattle.frame.proofs.Digits.{digit-not-lower}
 use Rattle.frame.proofs.Lines.{with-check}
-
-bool-cases : (b : Bool) → (b ≡ true) ⊎ (b ≡ false)
-bool-cases true = inl refl
-bool-cases false = inr refl
 
 pub record Seen (b : ℕ) : Type 0 where
   pub digit : isDigit (upperOf b) ≡ isDigit b
@@ -71,7 +67,7 @@ other-seen b e =
     }
 
 pub seen : (b : ℕ) → Seen b
-seen b = ⊎-elim (lower-seen b) (λ e. other-seen b (as-it-is b e)) (bool-cases (isLower b))
+seen b = ⊎-elim (lower-seen b) (λ e. other-seen b (as-it-is b e)) (cases (isLower b))
 
 -- texts that are raised
 
@@ -124,7 +120,7 @@ not-lower b e =
     ⊎-elim
     (λ (l : isLower b ≡ true). absurd (omega (arith, leb-true 97 b (and-left (leb 97 b) (leb b 102) l), simp l at e)))
     (λ l. l)
-    (bool-cases (isLower b))
+    (cases (isLower b))
 
 pub in-upper : (text : List ℕ) → upperCase text ≡ text → InUpperCase text
 in-upper text e =
@@ -164,8 +160,8 @@ same-below a b n f g =
     e
     ∙ sym
     (⊎-elim (λ (h : ltb b n ≡ true). absurd (omega (arith, g (ltb-true b n h), ltb-false a n e))) (λ h. h)
-    (bool-cases (ltb b n))))
-    (bool-cases (ltb a n))
+    (cases (ltb b n))))
+    (cases (ltb a n))
 
 module _ (k kind : ℕ) (s t : List ℕ)
     (e : EqualUpToCase (take (bytesOf (suc k)) s) (take (bytesOf (suc k)) t)) where

@@ -13,7 +13,7 @@ use mathlib.Core.List.{List}
 use lib.ListN.{length}
 use lib.Dec.{ltb, eqb}
 use borrow.Author.Tests.{ltb-false, eqb-true, eqb-false, not-false, eq-eqb, ne-eqb}
-use Rattle.choice.proofs.Tests.{clash}
+use Rattle.choice.proofs.Tests.{cases, clash}
 use Rattle.frame.specs.Pairs.{byteAt, pairAt, pairsFrom, sumOf, lineFeed}
 use Rattle.frame.specs.Reading.{Told, refusedBy, said, isTorn, areDigits, readAs, bytesOf}
 use Rattle.frame.specs.Laws.{ByOrder, RefusalsGoByOrder}
@@ -65,12 +65,8 @@ module _ (k kind : ℕ) (text : List ℕ) where
   is-accepted whole digits summed begun =
       simp (whole, digits, eq-eqb (sumOf (pairsFrom 0 k text)) 0 summed, eq-eqb (pairAt text 0) kind begun)
 
-bool-cases : (b : Bool) → (b ≡ true) ⊎ (b ≡ false)
-bool-cases true = inl refl
-bool-cases false = inr refl
-
 equal-or-not : (m n : ℕ) → (m ≡ n) ⊎ (m ≢ n)
-equal-or-not m n = ⊎-elim (λ e. inl (eqb-true m n e)) (λ e. inr (eqb-false m n e)) (bool-cases (eqb m n))
+equal-or-not m n = ⊎-elim (λ e. inl (eqb-true m n e)) (λ e. inr (eqb-false m n e)) (cases (eqb m n))
 
 holds : {A B : Type 0} → A → B → A ↔ B
 holds a b = (λ _. b, λ _. a)
@@ -153,7 +149,7 @@ module _ (k kind : ℕ) (text : List ℕ) where
       summed = ⊎-elim begun unsummed-case (equal-or-not (sumOf (pairsFrom 0 k text)) 0)
 
     digited : ByOrder k kind text
-    digited = ⊎-elim summed undigit-case (bool-cases (areDigits k text))
+    digited = ⊎-elim summed undigit-case (cases (areDigits k text))
 
 pub by-order : RefusalsGoByOrder
-by-order k kind text = ⊎-elim (torn-case k kind text) (digited k kind text) (bool-cases (isTorn k text))
+by-order k kind text = ⊎-elim (torn-case k kind text) (digited k kind text) (cases (isTorn k text))

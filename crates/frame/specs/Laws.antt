@@ -1,16 +1,16 @@
 -- What document 01's reader and writer owe each other, as statements over the definitions of this folder. Each is the
 -- promise of a function of `src/laws.rt`, so the gate names it when it is proved.
---     DigitsAreInverse     the digit's rule for reading and the one for writing are inverse to each other, up to case
---     CheckComesToZero     the check of every written line comes to 0
---     LengthsAreKnown      a written line has two bytes a value and three more: 9, 17, 9 and 11 for 01, 03, 04 and 05
---     WritesUpperCase      the writer writes no a to f
---     WrittenIsReadBack    what is written of four pairs is read back as the same numbers, whatever follows it
---     AcceptedIsWrittenUpToCase    every line that is accepted is, up to the case of its digits, what would be written of
---                          its numbers
---     ReadInEveryCase      a line is read alike in every mixture of the cases: with the same numbers, or the same refusal
---     CaseIsSharp          none of this holds with less: computed lines
---     RefusalsGoByOrder    each refusal is given exactly when its condition holds and those before it do not
---     OnlyOneAnswerFits    two answers that meet the contract of a public function are one
+--     DigitsAreInverse            the digit's rule for reading and the one for writing are inverse to each other, up to case
+--     CheckComesToZero            the check of every written line comes to 0
+--     LengthsAreKnown             a written line has two bytes a value and three more: 9, 17, 9 and 11 for 01, 03, 04 and 05
+--     WritesUpperCase             the writer writes no a to f
+--     WrittenIsReadBack           what is written of four pairs is read back as the same numbers, whatever follows it
+--     AcceptedIsWrittenUpToCase   every line that is accepted is, up to the case of its digits, what would be written of its
+--                                 numbers
+--     ReadInEveryCase             a line is read alike in every mixture of the cases: with the same numbers or refusal
+--     CaseIsSharp                 none of this holds with less: computed lines
+--     RefusalsGoByOrder           each refusal is given exactly when its condition holds and those before it do not
+--     OnlyOneAnswerFits           two answers that meet the contract of a public function are one
 use Prim.Native.Nat.{ℕ, _+_, _*_, _<_}
 use mathlib.Core.Path.{_≡_}
 use mathlib.Core.Logic.{_↔_, _⊎_, _≢_}

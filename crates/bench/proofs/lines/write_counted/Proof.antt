@@ -1,5 +1,5 @@
 -- `bench::lines::write_counted` meets its contract: the number goes into the two bytes that `counted` says.
-use mathlib.Core.Path.{ap, sym, _∙_}
+use mathlib.Core.Path.{ap, sym}
 use denote.Ref.{now}
 use borrow.Author.Needs.{needs}
 use Prim.Native.Nat.{_+_}

@@ -1,6 +1,6 @@
 -- `bench::lines::write_refused_at` meets its contract: the line's number goes into the two bytes that `refusedAt`
 -- says.
-use mathlib.Core.Path.{ap, sym, _∙_}
+use mathlib.Core.Path.{ap, sym}
 use denote.Ref.{now}
 use borrow.Author.Needs.{needs}
 use Prim.Native.Nat.{_+_}
