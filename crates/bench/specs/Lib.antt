@@ -5,4 +5,5 @@ pub mod Lent
 pub mod Steps
 pub mod Laws
 pub mod Bridge
+pub mod Verdict
 pub mod Case

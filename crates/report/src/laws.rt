@@ -1,0 +1,29 @@
+// What is claimed of the report, as contracts: an empty function promises each, so that a check names it. The statements are those
+// of `specs/Order.antt` and `specs/AtMost.antt`; nobody needs to call these.
+ghost use Rattle.report.specs.Order.{AnyOrder, PartsAddUp, RefusedAddsNothing};
+ghost use Rattle.report.specs.AtMost.{ChargedOnce, DiagonalIsZero};
+
+// Where no schedule is refused, another order refuses none and gives the same table.
+pub fn any_order()
+    ensures { λ _. ⌜ AnyOrder ⌝ }
+{}
+
+// And the tables of two parts add up to the table of both.
+pub fn parts_add_up()
+    ensures { λ _. ⌜ PartsAddUp ⌝ }
+{}
+
+// A refused schedule leaves the table and the lent rows as they were.
+pub fn refused_adds_nothing()
+    ensures { λ _. ⌜ RefusedAddsNothing ⌝ }
+{}
+
+// In the plain and guarded editions an entry charges each pair at most 1.
+pub fn charged_once()
+    ensures { λ _. ⌜ ChargedOnce ⌝ }
+{}
+
+// Nobody is charged for its own entries.
+pub fn diagonal_is_zero()
+    ensures { λ _. ⌜ DiagonalIsZero ⌝ }
+{}
