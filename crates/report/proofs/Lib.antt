@@ -1,1 +1,2 @@
 -- The proofs of the report.
+pub mod Upto

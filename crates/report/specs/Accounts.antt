@@ -53,6 +53,10 @@ noAccount = record {
   charged = replicate processors 0;
 }
 
+-- the kit's word for an account that is not there; there are always sixteen
+abbrev pub absent : Account
+absent = record { tally = noTally; joined = false; pending = []; charged = [] }
+
 -- what an accepted call was for its processor, by its place before and after
 unfoldable pub didBy : ℕ → ℕ → ℕ → Did
 didBy event was is = record {
@@ -98,17 +102,17 @@ seenBy a own p did =
 
 -- all accounts after it
 unfoldable pub notedBy : List Account → ℕ → Did → List Account
-notedBy accounts p did = upto processors (λ b. seenBy (getD accounts b noAccount) (eqb b p) p did)
+notedBy accounts p did = upto processors (λ b. seenBy (getD accounts b absent) (eqb b p) p did)
 
 -- the charges as a table, row a, column b; and the tallies
 unfoldable pub chargesRow : List Account → ℕ → List ℕ
-chargesRow accounts a = upto processors (λ b. getD ((getD accounts b noAccount) .charged) a 0)
+chargesRow accounts a = upto processors (λ b. getD ((getD accounts b absent) .charged) a 0)
 
 unfoldable pub chargesBy : List Account → List (List ℕ)
 chargesBy accounts = upto processors (chargesRow accounts)
 
 unfoldable pub talliesBy : List Account → List Tally
-talliesBy accounts = upto processors (λ p. (getD accounts p noAccount) .tally)
+talliesBy accounts = upto processors (λ p. (getD accounts p absent) .tally)
 
 -- there is room for one call more
 pub record TallyFits (t : Tally) : Type 0 where
@@ -125,4 +129,4 @@ pub record Fits (a : Account) : Type 0 where
   pub sums : Summable (a .charged) (a .pending)
 
 abbrev pub AllFit : List Account → Type 0
-AllFit accounts = (b : ℕ) → b < processors → Fits (getD accounts b noAccount)
+AllFit accounts = (b : ℕ) → b < processors → Fits (getD accounts b absent)
