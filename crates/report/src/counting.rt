@@ -80,7 +80,7 @@ impl Account {
         let enters = own & did.entered;
         let taken = own & did.interrupted;
         let was = self.joined;
-        let charges = enters & was & (joins == false);
+        let charges = enters & was & !joins;
         let pending = self.pending;
         let charged = self.charged;
         Account {
