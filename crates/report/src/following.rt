@@ -56,8 +56,10 @@ pub(crate) fn follow(first: LockState, text: &[u8]) -> Followed
                 state = next;
                 let to = state.row(p);
                 let did = counting::told_apart(event, from.place, to.place);
-                let then = counting::noted(accounts, p as usize, did);
-                accounts = then;
+                if did.joined | did.entered | did.interrupted {
+                    let then = counting::noted(accounts, p as usize, did);
+                    accounts = then;
+                }
                 accepted += 1;
                 let left = frame::rest(rest);
                 rest = left;
