@@ -1,2 +1,3 @@
 -- The proofs of the report.
 pub mod Upto
+pub mod Charging
