@@ -1,3 +1,4 @@
 -- The proofs of the report.
 pub mod Upto
 pub mod Charging
+pub mod Accounting
