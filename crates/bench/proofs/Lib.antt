@@ -9,6 +9,7 @@ pub mod Carried
 pub mod FirstLine
 pub mod Whole
 pub mod Hearing
+pub mod Heard
 pub mod Along
 pub mod Case
 pub mod Upper

@@ -2,3 +2,4 @@
 pub mod Upto
 pub mod Charging
 pub mod Accounting
+pub mod Going
