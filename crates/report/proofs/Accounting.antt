@@ -124,9 +124,12 @@ one-test true false true n = refl
 one-test true false false n = refl
 one-test false joined joins n = refl
 
--- an account after a call that was nothing to anybody
-seen-quiet : (a : Account) (mine : Bool) (p : ℕ) (d : Did) → ((d .joined || d .entered) || d .interrupted) ≡ false
-    → seenBy a mine p d ≡ a
+-- a call that was no join, no entry and no interrupt
+abbrev pub Nothing : Did → Type 0
+Nothing d = ((d .joined || d .entered) || d .interrupted) ≡ false
+
+-- leaves an account as it was
+seen-quiet : (a : Account) (mine : Bool) (p : ℕ) (d : Did) → Nothing d → seenBy a mine p d ≡ a
 unfolding seenBy tallied pendingThen chargedThen
 seen-quiet a mine p d none =
     let quiet : (d .joined || d .entered) ≡ false = neither-left (d .joined || d .entered) (d .interrupted) none in
@@ -209,8 +212,7 @@ module _ (s : LockState) (calls : List Call) (c : Call)
       ∙ ap (λ (a : Account). seenBy a (eqb b (c .processor)) (c .processor) done)
       (sym (upto-at (accountOf s calls) processors b absent l)))
 
-  pub accounts-quiet : ((done .joined || done .entered) || done .interrupted) ≡ false
-      → accountsOf s (calls ++ c ∷ []) ≡ accountsOf s calls
+  pub accounts-quiet : Nothing done → accountsOf s (calls ++ c ∷ []) ≡ accountsOf s calls
   accounts-quiet none =
       upto-same _ _ processors (λ b l.
       account-after b ∙ seen-quiet (accountOf s calls b) (eqb b (c .processor)) (c .processor) done none)

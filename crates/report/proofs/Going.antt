@@ -40,7 +40,7 @@ use Rattle.report.specs.Charges.{chargesFrom}
 use Rattle.report.specs.Table.{upto}
 use Rattle.report.specs.Accounts.{accountOf, accountsOf, noAccount, didBy, notedBy, AllFit}
 use Rattle.report.specs.Followed.{laterHeard, laterRefusal, followedAs, followedOf}
-use Rattle.report.proofs.Accounting.{did, accounts-after, accounts-quiet, accounts-fit}
+use Rattle.report.proofs.Accounting.{Nothing, did, accounts-after, accounts-quiet, accounts-fit}
 
 -- an accepted call is of a processor below N
 taken-below : (s : LockState) (event p : ℕ) → sound s ≡ true → eqb ((happens s event p) .refusal) 0 ≡ true → p < s .n
@@ -152,12 +152,12 @@ module _ (text : List ℕ) (first : LockState) (rest : List ℕ) (s : LockState)
             ∙ ap (notedBy (accountsOf first (i .calls)) p) told
             ∙ sym (accounts-after first (i .calls) call run-taken low)
 
-        pub quiet : ((d .joined || d .entered) || d .interrupted) ≡ false → accounts ≡ accountsOf first (i .calls ++ call ∷ [])
+        pub quiet : Nothing d → accounts ≡ accountsOf first (i .calls ++ call ∷ [])
         quiet none =
             i .accounts-are
             ∙ sym
             (accounts-quiet first (i .calls) call run-taken low
-            (subst (λ (x : Did). ((x .joined || x .entered) || x .interrupted) ≡ false) told none))
+            (subst Nothing told none))
 
       pub goes-on : (then : List Account) → then ≡ accountsOf first (i .calls ++ call ∷ []) → (later : List ℕ) →
           later ≡ restOf rest → Along text first later (a .state) then (accepted + 1)
