@@ -1,6 +1,6 @@
 -- Demand 3, clause by clause, as types; the proofs stand in proofs/. All of them speak of the step table's runs from
 -- the fresh state alone. A schedule is any list of calls, refused ones too, which change nothing; e is the edition, n
--- is N. In order: never two inside; the waiter; the demand's three claims on it; the same order with interrupts; one is
+-- is N. In order: never two inside; the waiter; the demand's three claims on it; the same order with interrupts, and once; one is
 -- inside by its own entry only; a set guard has its releaser; what a caller of the library holds is such a run. What is counted stands in Count, join, entry and interrupt in Run.
 use Prim.Native.Nat.{ℕ, suc, _-_, _≤_, _<_}
 use mathlib.Core.Path.{_≡_}
@@ -106,6 +106,14 @@ NobodyOvertakes =
     → wait ≡ seen ++ other ∷ unseen
     → enters (reached e n (before ++ join ∷ seen)) other q ≡ true
     → latestJoin (freshState e n) (before ++ join ∷ seen ++ other ∷ []) q < suc (length before)
+
+-- And every processor enters at most once there.
+abbrev pub OnceSinceLastJoin : Type 0
+OnceSinceLastJoin =
+    (e n : ℕ) (before : List Call) (join : Call) (wait : List Call) (entry : Call) (p : ℕ)
+    → LastJoin e n before join wait entry p
+    → (q : ℕ)
+    → entriesIn (reached e n (before ++ join ∷ [])) wait q ≤ 1
 
 -- "A processor is inside while its place is 9": it comes there only by its own entry, so counting entries counts all who go
 -- in. In any edition.

@@ -3,7 +3,7 @@
 ghost use Rattle.lock.specs.Sharp.{ClaimsAreSharp};
 ghost use Rattle.lock.specs.Old.{OldHasNoJoins, OldOvertakes, OldHasNoBound};
 ghost use Rattle.lock.specs.Reread.{SecondReadFindsTheSame, SecondReadIsSharp, LostChangesNothing, LostStaysLost, NobodyEntersOnceLost, LockIsLost};
-ghost use Rattle.lock.specs.Claims.{NeverTwoInside, NeverTwoInsideAnyEdition, NobodyLaterEnters, OthersEnterOnce, WaitsAtMost, NobodyOvertakes, InsideByEntry, GuardHasItsReleaser, CallsAreARun};
+ghost use Rattle.lock.specs.Claims.{NeverTwoInside, NeverTwoInsideAnyEdition, NobodyLaterEnters, OthersEnterOnce, WaitsAtMost, NobodyOvertakes, OnceSinceLastJoin, InsideByEntry, GuardHasItsReleaser, CallsAreARun};
 
 // "two processors are never inside together"
 pub fn never_two_inside()
@@ -33,6 +33,11 @@ pub fn waits_at_most()
 // the order with any interrupts, from the last join before an entry
 pub fn nobody_overtakes()
     ensures { λ _. ⌜ NobodyOvertakes ⌝ }
+{}
+
+// and every processor enters at most once there
+pub fn once_since_last_join()
+    ensures { λ _. ⌜ OnceSinceLastJoin ⌝ }
 {}
 
 // "A processor is inside while its place is 9": it comes there by its own entry only

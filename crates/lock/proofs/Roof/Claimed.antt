@@ -9,7 +9,7 @@ use borrow.Author.Tests.{leb-true}
 use Rattle.choice.proofs.Tests.{clash, and-left, and-right}
 use Rattle.lock.specs.State.{freshState, row}
 use Rattle.lock.specs.Run.{isInside}
-use Rattle.lock.specs.Claims.{NeverTwoInside, NeverTwoInsideAnyEdition, NobodyLaterEnters, OthersEnterOnce, WaitsAtMost, NobodyOvertakes, reached, InsideByEntry, GuardHasItsReleaser}
+use Rattle.lock.specs.Claims.{NeverTwoInside, NeverTwoInsideAnyEdition, NobodyLaterEnters, OthersEnterOnce, WaitsAtMost, NobodyOvertakes, OnceSinceLastJoin, reached, InsideByEntry, GuardHasItsReleaser}
 use Rattle.lock.proofs.Ground.Places.{place-far}
 use Rattle.lock.proofs.Ground.Facts.{facts, factsAt, normal, normal-within, by-number}
 use Rattle.lock.proofs.Order.Tickets.{noTickets}
@@ -37,6 +37,9 @@ waits-at-most = Demand.waits-at-most Inv inv-fresh inv-after inv-entry
 
 pub nobody-overtakes : NobodyOvertakes
 nobody-overtakes = Demand.nobody-overtakes Inv inv-fresh inv-after inv-entry
+
+pub once-since-last-join : OnceSinceLastJoin
+once-since-last-join = Demand.once-since-last-join Inv inv-fresh inv-after inv-entry
 
 pub inside-by-entry : InsideByEntry
 inside-by-entry e n calls c p h =

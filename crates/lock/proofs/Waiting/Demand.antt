@@ -1,7 +1,7 @@
 -- Demand 3 from the invariant: the claims of specs/Claims, given an invariant of states and tickets that holds at
 -- fresh, is kept by every call, and says that who enters holds the smallest ticket of all members. In order: a run
 -- keeps the invariant; the ticket of a join; the order as a number of a call; the demand's three claims; the order
--- with interrupts.
+-- and once with interrupts.
 use Prim.Native.Nat.{ℕ, suc, _-_, _≤_, _<_}
 use native.Mathlib.Omega.{arith}
 use mathlib.Core.Path.{_≡_, refl, sym, ap, _∙_, subst}
@@ -12,7 +12,7 @@ use Rattle.lock.specs.declared.LockState.{LockState}
 use Rattle.lock.specs.State.{processors, isOld, freshState}
 use Rattle.lock.specs.Run.{Call, after, run, joins, enters}
 use Rattle.lock.specs.Count.{joinsIn, entriesIn, interruptsIn, allEntriesIn, latestJoin}
-use Rattle.lock.specs.Claims.{reached, Ordered, Waits, waited, NobodyLaterEnters, OthersEnterOnce, WaitsAtMost, LastJoin, NobodyOvertakes}
+use Rattle.lock.specs.Claims.{reached, Ordered, Waits, waited, NobodyLaterEnters, OthersEnterOnce, WaitsAtMost, LastJoin, NobodyOvertakes, OnceSinceLastJoin}
 use Rattle.lock.proofs.Order.Tickets.{Tickets, noTickets, ticketed, isMember, isOrdered, ordered-queue}
 use Rattle.lock.proofs.Waiting.Counting.{run-append, ticketsOf, count-no, latest-without-joins, latest-within}
 use Rattle.lock.proofs.Waiting.Stepping.{Queue, queue-after, rows-after, size-after, joins-own, joins-below}
@@ -217,3 +217,7 @@ module _
       order e n before join p (l .ordered) (l .joined) seen other unseen q
       (subst (λ cs. StaysIn (joinedState e n before join) cs p) split
       (last-join-queued e n before join wait entry p l)) entered
+
+  pub once-since-last-join : OnceSinceLastJoin
+  once-since-last-join e n before join wait entry p l q =
+      once e n before join p (l .ordered) (l .joined) wait q (last-join-queued e n before join wait entry p l)
