@@ -3,3 +3,5 @@ pub mod Upto
 pub mod Charging
 pub mod Accounting
 pub mod Going
+pub mod Latest
+pub mod Once

@@ -88,17 +88,20 @@ ticketsJoined e n before join = ticketed (reached e n before) (ticketsBefore e n
 pub rows-reached : (e n : ℕ) (before : List Call) → length ((reached e n before) .rows) ≡ processors
 rows-reached e n before = rows-run (freshState e n) before (fresh-rows e n)
 
--- an ordered edition has a queue
+-- an edition that is not that of the old boards has a queue
 queue-run : (s : LockState) (cs : List Call) → Queue s → Queue (run s cs)
 unfolding run
 queue-run s [] h = h
 queue-run s (c ∷ cs) h = queue-run (after s c) cs (queue-after s c h)
 
+pub queue-reached : (e n : ℕ) (before : List Call) → isOld e ≡ false → Queue (reached e n before)
+queue-reached e n before other =
+    queue-run (freshState e n) before
+    (record { rows = fresh-rows e n; edition = ap isOld (fresh-edition e n) ∙ other })
+
 queue-joined : (e n : ℕ) (before : List Call) (join : Call) → Ordered e n → Queue (joinedState e n before join)
 queue-joined e n before join ordered =
-    queue-after (reached e n before) join
-    (queue-run (freshState e n) before
-    (record { rows = fresh-rows e n; edition = ap isOld (fresh-edition e n) ∙ ordered-queue e (ordered .edition) }))
+    queue-after (reached e n before) join (queue-reached e n before (ordered-queue e (ordered .edition)))
 
 size-joined : (e n : ℕ) (before : List Call) (join : Call) → (joinedState e n before join) .n ≡ n
 size-joined e n before join =
