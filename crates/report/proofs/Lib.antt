@@ -5,3 +5,4 @@ pub mod Accounting
 pub mod Going
 pub mod Latest
 pub mod Once
+pub mod Orders
