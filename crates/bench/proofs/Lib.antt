@@ -10,6 +10,7 @@ pub mod FirstLine
 pub mod Whole
 pub mod Hearing
 pub mod Heard
+pub mod Verdict
 pub mod Along
 pub mod Case
 pub mod Upper

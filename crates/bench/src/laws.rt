@@ -1,7 +1,8 @@
 // The laws of logs as contracts: an empty function promises each, so that a check names it. The statements are those
-// of `specs/Laws.antt`, `specs/Bridge.antt` and `specs/Case.antt`; nobody needs to call these.
+// of `specs/Laws.antt`, `specs/Bridge.antt`, `specs/Verdict.antt` and `specs/Case.antt`; nobody needs to call these.
 ghost use Rattle.bench.specs.Laws.{FuelDoesNotMatter, LogFitsItsRoom, OnlyOneAnswerFits};
 ghost use Rattle.bench.specs.Bridge.{EveryLogIsARun, AcceptedLogIsARun, RowsFollowTheRun, EntryMarkIsAnEntry};
+ghost use Rattle.bench.specs.Verdict.{LogTellsTheVerdict};
 ghost use Rattle.bench.specs.Case.{CaseDoesNotMatter, LogIsInUpperCase, UpperCaseAsBefore, CaseIsSharp};
 
 // The bound on the lines in the definition of a log changes nothing.
@@ -28,6 +29,11 @@ pub fn every_log_is_a_run()
 // The log of a schedule with no refusal is line 1, the rows along its run, and the number of its calls.
 pub fn accepted_log_is_a_run()
     ensures { λ _. ⌜ AcceptedLogIsARun ⌝ }
+{}
+
+// A schedule's refusal and its line, as two numbers, are those of its log's last line.
+pub fn log_tells_the_verdict()
+    ensures { λ _. ⌜ LogTellsTheVerdict ⌝ }
 {}
 
 // The row after each call shows the state that the run has then.
