@@ -23,7 +23,8 @@ use Rattle.report.specs.declared.Measured.{Measured}
 use Rattle.report.specs.declared.Tally.{Tally}
 use Rattle.report.specs.Table.{upto, greatest, Counts, cell, holds, raised, countsAdded, addedTo}
 use Rattle.report.specs.Report.{chargesOf, tallyOf, reportedOf, unmeasured, measuredOf, rowsAfter}
-use Rattle.report.specs.Order.{Given, reportOf, noneRefused, tableAfter, Rearranged, AnyOrder, noCounts, PartsAddUp, RefusedAddsNothing}
+use Rattle.report.specs.Order.{Given, reportOf, noneRefused, tableAfter, noCounts}
+use Rattle.report.specs.Order.{Rearranged, AnyOrder, PartsAddUp, RefusedAddsNothing}
 use Rattle.report.proofs.Upto.{upto-at, upto-same}
 
 -- ---- one schedule
