@@ -6,3 +6,4 @@ pub mod Going
 pub mod Latest
 pub mod Once
 pub mod Orders
+pub mod Values
