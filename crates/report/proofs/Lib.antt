@@ -7,3 +7,4 @@ pub mod Latest
 pub mod Once
 pub mod Orders
 pub mod Values
+pub mod Adding
