@@ -8,3 +8,4 @@ pub mod Once
 pub mod Orders
 pub mod Values
 pub mod Adding
+pub mod Seam
