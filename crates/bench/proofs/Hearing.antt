@@ -212,7 +212,7 @@ module _ (text : List ℕ) where
   first-run h =
       calls-are-a-run (editionOf text) (processorsOf text) [] (made-1 .state) (made made-1 refl (first-made h))
 
-  first-state : firstRefusal text ≡ 0 → made-1 .state ≡ firstState text
+  pub first-state : firstRefusal text ≡ 0 → made-1 .state ≡ firstState text
   unfolding run
   first-state h = first-run h .state
 

@@ -3,6 +3,7 @@ pub mod Upto
 pub mod Charging
 pub mod Accounting
 pub mod Going
+pub mod Opening
 pub mod Latest
 pub mod Once
 pub mod Orders

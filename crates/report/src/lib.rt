@@ -10,7 +10,6 @@ mod tables;
 mod told;
 
 ghost use mathlib.Core.Path.{_≡_};
-
 pub use reporting::by_value;
 pub use reporting::report;
 pub use tables::added;

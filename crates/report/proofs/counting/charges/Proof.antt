@@ -26,10 +26,11 @@ loop-holds c = (search needs, refl)
 loop-again : tie.Need-loop-again Inv-loop μ-loop
 loop-again c =
     let at = c .before .before .loop in
-    let accounts = c .before .before .before .args .accounts in
-    (search needs,
-    ap (set (at .table) (at .a)) (c .charges-row .ensures)
-    ∙ next (chargesRow accounts) noCounts (at .table) (at .a) [] (omega arith) (at .inv .1))
+    let accounts = c .before .before .before .args .accounts in (
+      search needs,
+      ap (set (at .table) (at .a)) (c .charges-row .ensures)
+          ∙ next (chargesRow accounts) noCounts (at .table) (at .a) [] (omega arith) (at .inv .1),
+    )
 
 returns : tie.Need-returns Inv-loop μ-loop
 unfolding chargesBy

@@ -29,9 +29,10 @@ loop-holds c = (search needs, refl)
 loop-again : tie.Need-loop-again Inv-loop μ-loop
 loop-again c =
     let at = c .before .before .before .loop in
-    let args = c .before .before .before .before .args in
-    (search needs,
-    next (charge (args .t1) (args .a)) (replicate processors 0) (at .row) (at .b) 0 (omega arith) (at .inv .1))
+    let args = c .before .before .before .before .args in (
+      search needs,
+      next (charge (args .t1) (args .a)) (replicate processors 0) (at .row) (at .b) 0 (omega arith) (at .inv .1),
+    )
 
 returns : tie.Need-returns Inv-loop μ-loop
 unfolding chargesRow

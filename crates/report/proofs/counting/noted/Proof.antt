@@ -37,10 +37,11 @@ loop-again : tie.Need-loop-again Inv-loop μ-loop
 loop-again c =
     let at = c .before .before .before .loop in
     let args = c .before .before .before .before .args in
-    let n : length (args .t1) ≡ processors = search needs in
-    (search needs,
-    ap (set (at .next) (at .b)) (c .seen .ensures)
-    ∙ next (seen (args .t1) (args .p) (args .did)) (args .t1) (at .next) (at .b) absent (omega arith) (at .inv .1))
+    let n : length (args .t1) ≡ processors = search needs in (
+      search needs,
+      ap (set (at .next) (at .b)) (c .seen .ensures)
+          ∙ next (seen (args .t1) (args .p) (args .did)) (args .t1) (at .next) (at .b) absent (omega arith) (at .inv .1),
+    )
 
 returns : tie.Need-returns Inv-loop μ-loop
 unfolding notedBy
