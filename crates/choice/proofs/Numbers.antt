@@ -2,6 +2,7 @@
 --     every-at       where it passes, it passes at each number
 --     every-from     where it passes at each number, it passes
 --     every-next     the test goes on by one number
+--     every-same     two tests that agree on each number below the bound come to the same
 --     by-same        a statement of every number, by whether the number is p
 --     Avoids, avoids-far     a number that is none of those below n, as a match's last arm says it, is n or more
 -- Assumes nothing.
@@ -37,6 +38,13 @@ every-next n f all here so now =
     ap (λ (b : Bool). b && here) so
     ∙ ap (λ (b : Bool). every n f && b) now
     ∙ ap (λ (m : ℕ). every m f) (sym (add-one n))
+
+pub every-same : (n : ℕ) (f g : ℕ → Bool) → ((i : ℕ) → i < n → f i ≡ g i) → every n f ≡ every n g
+unfolding every
+every-same zero f g h = refl
+every-same (suc n) f g h =
+    ap (λ (b : Bool). b && f n) (every-same n f g (λ i l. h i (omega arith)))
+    ∙ ap (λ (b : Bool). every n g && b) (h n (omega arith))
 
 pub by-same : (F : ℕ → Type 0) (p : ℕ) → F p → ((q : ℕ) → q ≢ p → F q) → (q : ℕ) → F q
 by-same F p same other q = go (eqb q p) refl

@@ -4,6 +4,7 @@ pub mod Charging
 pub mod Accounting
 pub mod Going
 pub mod Opening
+pub mod Measuring
 pub mod Latest
 pub mod Once
 pub mod Orders
