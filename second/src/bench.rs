@@ -38,7 +38,7 @@ pub fn follow<W: FnMut(&Happening)>(schedule: &[u8], watch: W) -> (Vec<u8>, u8) 
 }
 
 /// Writes all but a 05 line. A refusal comes with its line, the first being line 1.
-fn run<W: FnMut(&Happening)>(schedule: &[u8], out: &mut Vec<u8>, mut watch: W) -> Result<(), (u8, u16)> {
+pub fn run<W: FnMut(&Happening)>(schedule: &[u8], out: &mut Vec<u8>, mut watch: W) -> Result<(), (u8, u16)> {
     if schedule.len() > MOST_BYTES {
         return Err((REFUSED_SCHEDULE, 0));
     }

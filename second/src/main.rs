@@ -9,8 +9,10 @@ mod case;
 mod cell;
 mod coverage;
 mod edges;
+mod filed;
 mod frame;
 mod handed;
+mod lists;
 mod lock;
 mod order;
 mod overtaking;
@@ -21,8 +23,10 @@ mod report;
 mod shortest;
 mod sound;
 mod step;
+mod table;
 mod turns;
 mod verdict;
+mod waited;
 mod watch;
 
 use std::io::{Read, Write};
@@ -34,6 +38,9 @@ const USAGE: &str = "usage: second              a schedule on standard input, it
        second schedule I   random schedule I
        second handed       the digests of what comes back for 78,000 states handed in at random
        second bytes        the sizes and digests of the logs for every pair of bytes, and for every byte of a line
+       second reports      the digests of the reports, who made whom wait, over 300 lists of random schedules
+       second report ARGUMENT..
+                           the report over files: s and the name of a schedule, or t and the name of a table
        second coverage     how often the 800 schedules take each side of the step table, the states handed in
                            each side of the tests of soundness, and which digits in which case the reader meets
        second verdict      who waits and who is passed over in one schedule on standard input
@@ -66,6 +73,9 @@ fn main() {
         },
         ["handed"] => put(handed::print().as_bytes()),
         ["bytes"] => put(bytes::print().as_bytes()),
+        ["reports"] => put(lists::print().as_bytes()),
+        // The names as they are given: they need not be text.
+        ["report", ..] => put(filed::print(std::env::args_os().skip(2)).as_bytes()),
         ["coverage"] => {
             let parts = [coverage::print(), answers::print(), readings::print(), alike::print()];
             let texts: Vec<&str> = parts.iter().map(|(text, _)| text.as_str()).collect();

@@ -1,0 +1,155 @@
+//! Lists: the lists of schedules of docs/RANDOM.md that are reported, each in two orders, and what is printed of the
+//! answers.
+
+use crate::lock::MOST;
+use crate::random::{self, Random};
+use crate::table::Table;
+use crate::waited::{self, Answer, Lent};
+use std::panic::catch_unwind;
+
+/// How many lists there are.
+pub const LISTS: u64 = 300;
+
+/// In the place of a refusal when the report fails in the middle, as it can where it should have refused.
+const FAILED: u8 = 255;
+
+/// A schedule of a list: its number among the random ones, and how many rows it is lent.
+#[derive(Clone, Copy)]
+pub struct Item {
+    pub number: u64,
+    pub lent: usize,
+}
+
+pub struct List {
+    pub items: Vec<Item>,
+    /// The table it is reported from.
+    pub start: Table,
+    turn: usize,
+}
+
+/// What comes back for one schedule.
+pub struct Reported {
+    pub answer: Answer,
+    /// The table after it.
+    pub after: Table,
+    /// All rows lent, as they then are.
+    pub lent: Vec<Lent>,
+}
+
+/// List i. The draws stand in the order of the page.
+pub fn list(i: u64) -> List {
+    let random = &mut Random { x: (i * 7919 + 43) % 2147483648 };
+    let size = 1 + random.draw(6);
+    let items: Vec<Item> = (0..size).map(|_| item(random, i % 2 == 0)).collect();
+    let start = start(random, items[0]);
+    let turn = random.draw(size) as usize;
+    List { items, start, turn }
+}
+
+/// The next schedule of a list. Those of an even list are not damaged and are lent all rows.
+fn item(random: &mut Random, even: bool) -> Item {
+    let number = random.draw(random::SCHEDULES);
+    if even {
+        return Item { number: 4 * (number / 4), lent: MOST as usize };
+    }
+    let lent = if random.draw(3) == 0 { random.draw(18) as usize } else { MOST as usize };
+    Item { number, lent }
+}
+
+fn start(random: &mut Random, first: Item) -> Table {
+    let mut table = Table::ZERO;
+    match random.draw(4) {
+        0 | 1 => (),
+        2 => table.counts.iter_mut().flatten().for_each(|count| *count = u32::MAX - random.draw(256) as u32),
+        _ => fill_one(random, first, &mut table),
+    }
+    table
+}
+
+/// Fills the cell in which the first schedule alone counts most, so that its count is the last that fits, or the first
+/// that does not.
+fn fill_one(random: &mut Random, first: Item, table: &mut Table) {
+    let alone = reported(Item { lent: MOST as usize, ..first }, table).after;
+    let most = alone.cells().max().unwrap_or(0);
+    // A refused report leaves all cells 0, and so cell 0 0 is the one.
+    let cell = table.counts.iter_mut().flatten().zip(alone.cells()).find(|(_, count)| *count == most);
+    let (cell, _) = cell.expect("some count is the greatest");
+    *cell = if most == 0 { u32::MAX } else { u32::MAX - most + random.draw(2) as u32 };
+}
+
+/// The rows lent to a schedule.
+pub fn rows(lent: usize) -> Vec<Lent> {
+    let row = |r| Lent { entries: 3 * r + 1, interrupts: 3 * r + 2, joins: 3 * r + 3 };
+    (0..lent as u32).map(row).collect()
+}
+
+/// The report of a schedule from a table.
+fn reported(item: Item, before: &Table) -> Reported {
+    let result = catch_unwind(|| {
+        let mut table = *before;
+        let mut lent = rows(item.lent);
+        let answer = waited::report(&random::schedule(item.number), &mut table, &mut lent);
+        (answer, table, lent)
+    });
+    let failed = Answer { refusal: FAILED, line: 0, laid: 0 };
+    let (answer, after, lent) = result.unwrap_or_else(|_| (failed, *before, rows(item.lent)));
+    Reported { answer, after, lent }
+}
+
+impl List {
+    /// The reports of the list in its order.
+    pub fn in_order(&self) -> Vec<Reported> {
+        self.follow(self.items.iter())
+    }
+
+    /// The reports in the other order: from the turn down, then from the last down.
+    pub fn in_other_order(&self) -> Vec<Reported> {
+        let (head, tail) = self.items.split_at(self.turn + 1);
+        self.follow(head.iter().rev().chain(tail.iter().rev()))
+    }
+
+    fn follow<'a>(&self, items: impl Iterator<Item = &'a Item>) -> Vec<Reported> {
+        let mut table = self.start;
+        let mut follow = |item: &Item| {
+            let reported = reported(*item, &table);
+            table = reported.after;
+            reported
+        };
+        items.map(|item| follow(item)).collect()
+    }
+}
+
+/// How many are refused.
+pub fn refused(reports: &[Reported]) -> usize {
+    reports.iter().filter(|reported| reported.answer.refusal != 0).count()
+}
+
+/// The digest of the table at the end.
+pub fn table_digest(reports: &[Reported]) -> u64 {
+    let table = reports.last().expect("a list has a schedule").after;
+    random::digest(&table.cells().flat_map(u32::to_be_bytes).collect::<Vec<_>>())
+}
+
+/// The digest of all answers.
+fn answers_digest(reports: &[Reported]) -> u64 {
+    let mut bytes = Vec::new();
+    for Reported { answer, lent, .. } in reports {
+        let [high, low] = answer.line.to_be_bytes();
+        bytes.extend_from_slice(&[answer.refusal, high, low, answer.laid]);
+        let numbers = lent.iter().flat_map(|row| [row.entries, row.interrupts, row.joins]);
+        bytes.extend(numbers.flat_map(u32::to_be_bytes));
+    }
+    random::digest(&bytes)
+}
+
+/// The lines of all lists.
+pub fn print() -> String {
+    let mut text = String::new();
+    for i in 0..LISTS {
+        let list = list(i);
+        let (first, other) = (list.in_order(), list.in_other_order());
+        text += &format!("{} {} {} {}", i, refused(&first), answers_digest(&first), table_digest(&first));
+        text += &format!(" {} {}\n", refused(&other), table_digest(&other));
+    }
+    text
+}
