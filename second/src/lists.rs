@@ -29,8 +29,10 @@ pub struct List {
 
 /// What comes back for one schedule.
 pub struct Reported {
+    pub item: Item,
     pub answer: Answer,
-    /// The table after it.
+    /// The table before and after it.
+    pub before: Table,
     pub after: Table,
     /// All rows lent, as they then are.
     pub lent: Vec<Lent>,
@@ -93,39 +95,39 @@ fn reported(item: Item, before: &Table) -> Reported {
     });
     let failed = Answer { refusal: FAILED, line: 0, laid: 0 };
     let (answer, after, lent) = result.unwrap_or_else(|_| (failed, *before, rows(item.lent)));
-    Reported { answer, after, lent }
+    Reported { item, answer, before: *before, after, lent }
 }
 
 impl List {
-    /// The reports of the list in its order.
-    pub fn in_order(&self) -> Vec<Reported> {
-        self.follow(self.items.iter())
+    pub fn order(&self) -> Vec<usize> {
+        (0..self.items.len()).collect()
     }
 
-    /// The reports in the other order: from the turn down, then from the last down.
-    pub fn in_other_order(&self) -> Vec<Reported> {
-        let (head, tail) = self.items.split_at(self.turn + 1);
-        self.follow(head.iter().rev().chain(tail.iter().rev()))
+    /// The other order: from the turn down, then from the last down.
+    pub fn other_order(&self) -> Vec<usize> {
+        let after_turn = self.turn + 1..self.items.len();
+        (0..=self.turn).rev().chain(after_turn.rev()).collect()
     }
 
-    fn follow<'a>(&self, items: impl Iterator<Item = &'a Item>) -> Vec<Reported> {
+    /// The reports of the list in an order.
+    pub fn reports(&self, order: &[usize]) -> Vec<Reported> {
         let mut table = self.start;
-        let mut follow = |item: &Item| {
-            let reported = reported(*item, &table);
+        let next = |k: &usize| {
+            let reported = reported(self.items[*k], &table);
             table = reported.after;
             reported
         };
-        items.map(|item| follow(item)).collect()
+        order.iter().map(next).collect()
     }
 }
 
 /// How many are refused.
-pub fn refused(reports: &[Reported]) -> usize {
+fn refused(reports: &[Reported]) -> usize {
     reports.iter().filter(|reported| reported.answer.refusal != 0).count()
 }
 
 /// The digest of the table at the end.
-pub fn table_digest(reports: &[Reported]) -> u64 {
+fn table_digest(reports: &[Reported]) -> u64 {
     let table = reports.last().expect("a list has a schedule").after;
     random::digest(&table.cells().flat_map(u32::to_be_bytes).collect::<Vec<_>>())
 }
@@ -147,7 +149,7 @@ pub fn print() -> String {
     let mut text = String::new();
     for i in 0..LISTS {
         let list = list(i);
-        let (first, other) = (list.in_order(), list.in_other_order());
+        let (first, other) = (list.reports(&list.order()), list.reports(&list.other_order()));
         text += &format!("{} {} {} {}", i, refused(&first), answers_digest(&first), table_digest(&first));
         text += &format!(" {} {}\n", refused(&other), table_digest(&other));
     }

@@ -7,8 +7,10 @@ mod bytes;
 mod canon;
 mod case;
 mod cell;
+mod charged;
 mod coverage;
 mod edges;
+mod fates;
 mod filed;
 mod frame;
 mod handed;
@@ -24,9 +26,11 @@ mod shortest;
 mod sound;
 mod step;
 mod table;
+mod turned;
 mod turns;
 mod verdict;
 mod waited;
+mod wanted;
 mod watch;
 
 use std::io::{Read, Write};
@@ -43,6 +47,7 @@ const USAGE: &str = "usage: second              a schedule on standard input, it
                            the report over files: s and the name of a schedule, or t and the name of a table
        second coverage     how often the 800 schedules take each side of the step table, the states handed in
                            each side of the tests of soundness, and which digits in which case the reader meets
+       second charged      which refusals and which joins the reports over the 300 lists meet
        second verdict      who waits and who is passed over in one schedule on standard input
        second verdicts     the same for the 800 random schedules
        second order        what the 800 random schedules show of demand 3, and of two never being inside together
@@ -81,6 +86,7 @@ fn main() {
             let texts: Vec<&str> = parts.iter().map(|(text, _)| text.as_str()).collect();
             judge((texts.join("\n"), parts.iter().all(|(_, good)| *good)));
         }
+        ["charged"] => judge(charged::print()),
         ["verdict"] => try_put(verdict::print(&get())),
         ["verdicts"] => try_put(verdict::print_all()),
         ["order"] => judge(order::print()),

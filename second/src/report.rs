@@ -12,6 +12,11 @@ impl Report {
         self.text += "\n";
     }
 
+    /// A line of words and their number.
+    pub fn number(&mut self, words: &str, number: u64) {
+        self.line(&format!("{:<64}{:>7}", words, number));
+    }
+
     /// The head of a table with a column for the random schedules and one for those of bytes.rs.
     pub fn head(&mut self, words: &str) {
         self.line(&format!("{:<58}{:>9}{:>9}", words, "random", "bytes"));

@@ -1,5 +1,5 @@
-//! Table: the 16 by 16 counts of request [4], carried from schedule to schedule. Row a and column b hold how many entries
-//! of a fell between a join of b and the entry that join led to.
+//! Table: the 16 by 16 counts of request [4], carried from schedule to schedule. Row a and column b hold how many
+//! entries of a fell between a join of b and the entry that join led to.
 
 use crate::lock::MOST;
 
