@@ -5,7 +5,6 @@ use crate::bench::REFUSED_SCHEDULE;
 use crate::fates::{self, Shown};
 use crate::lists::{self, Reported, LISTS};
 use crate::lock::*;
-use crate::random;
 use crate::report::Report;
 use crate::table::REFUSED_COUNT;
 use crate::turned::Orders;
@@ -49,7 +48,7 @@ impl Seen<'_> {
     }
 
     fn lent(&self) -> usize {
-        self.reported.item.lent
+        self.reported.lent.len()
     }
 
     fn edition_is(&self, edition: u8) -> bool {
@@ -219,11 +218,11 @@ fn counted() -> Counts {
     for i in 0..LISTS {
         let list = lists::list(i);
         for item in &list.items {
-            known.entry(item.number).or_insert_with(|| Wanted::of(&random::schedule(item.number)));
+            known.entry(item.number).or_insert_with(|| Wanted::of(&item.text));
         }
         let (first, other) = (list.reports(&list.order()), list.reports(&list.other_order()));
         for (j, reported) in first.iter().chain(&other).enumerate() {
-            let seen = Seen { reported, wanted: &known[&reported.item.number] };
+            let seen = Seen { reported, wanted: &known[&list.items[reported.k].number] };
             count(&mut counts.wrong, WRONG, &seen);
             if j < first.len() {
                 counts.add(&seen);

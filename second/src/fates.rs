@@ -50,6 +50,10 @@ const FATES: &[Fate] = &[
     fate("open at the end, through some, not charged", QUEUES, |j| open(j) && !j.entries.is_empty()),
 ];
 
+/// The first processor whose entries these lists do not charge, and the first whose waiting: few runs have so many.
+const ENTRIES_CHARGED: usize = 14;
+const WAITING_CHARGED: usize = 13;
+
 /// What the accepted schedules of one edition show.
 #[derive(Clone, Copy, Default)]
 pub struct Shown {
@@ -58,6 +62,9 @@ pub struct Shown {
     interrupts: u64,
     fates: [u64; FATES.len()],
     charges: u64,
+    /// By processor, what is charged of its entries, and for its waiting.
+    of: [u64; MOST as usize],
+    to: [u64; MOST as usize],
     /// The most that one entry is charged with, of all others together and of a single one.
     most: u64,
     most_of_one: u64,
@@ -69,8 +76,12 @@ impl Shown {
         let rows = &reported.lent[..reported.answer.laid as usize];
         self.entries += rows.iter().map(|row| row.entries as u64).sum::<u64>();
         self.interrupts += rows.iter().map(|row| row.interrupts as u64).sum::<u64>();
-        let counts = reported.before.cells().zip(reported.after.cells());
-        self.charges += counts.map(|(before, after)| (after - before) as u64).sum::<u64>();
+        for (cell, (before, after)) in reported.before.cells().zip(reported.after.cells()).enumerate() {
+            let (a, b) = (cell / MOST as usize, cell % MOST as usize);
+            self.charges += (after - before) as u64;
+            self.of[a] += (after - before) as u64;
+            self.to[b] += (after - before) as u64;
+        }
         wanted.joins().for_each(|join| self.join(join));
     }
 
@@ -100,6 +111,30 @@ pub fn print(editions: &[Shown; EDITIONS.len()], report: &mut Report) {
     columns(editions, report, "of these, most of a single processor", |shown| shown.most_of_one);
     for (edition, shown) in (PLAIN..=LAST_EDITION).zip(editions) {
         demand_edition(edition, shown, report);
+    }
+    report.line("");
+    print_processors(editions, report);
+}
+
+/// Which processors are charged: in the rows of the table, and in its columns.
+fn print_processors(editions: &[Shown], report: &mut Report) {
+    let numbers: String = (0..MOST).map(|p| format!("{:>5}", p)).collect();
+    report.line(&format!("{:<20}{}", "processor", numbers));
+    print_charged(report, "its entries charged", ENTRIES_CHARGED, |p| editions.iter().map(|shown| shown.of[p]).sum());
+    print_charged(report, "charged its waiting", WAITING_CHARGED, |p| editions.iter().map(|shown| shown.to[p]).sum());
+}
+
+/// A line of them. Those from `end` on are not met.
+fn print_charged(report: &mut Report, words: &str, end: usize, charged: impl Fn(usize) -> u64) {
+    let numbers: Vec<u64> = (0..MOST as usize).map(charged).collect();
+    let text: String = numbers.iter().map(|number| format!("{:>5}", number)).collect();
+    report.line(&format!("{:<20}{}", words, text));
+    for (p, &number) in numbers.iter().enumerate() {
+        if p < end {
+            report.demand(number, 1, &format!("{}, processor {}", words, p));
+        } else {
+            report.forbid(number, &format!("{}, processor {}, listed as not met", words, p));
+        }
     }
 }
 

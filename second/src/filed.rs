@@ -15,9 +15,6 @@ const NUMBER: usize = DIGITS + 1;
 const NUMBERS: usize = MOST as usize;
 const TABLE_BYTES: usize = NUMBERS * NUMBERS * NUMBER;
 
-/// A row that no schedule has filled.
-const EMPTY_ROW: Lent = Lent { entries: 0, interrupts: 0, joins: 0 };
-
 /// The line of each argument, then the table.
 pub fn print(arguments: impl Iterator<Item = OsString>) -> String {
     let mut table = Table::ZERO;
@@ -48,7 +45,7 @@ fn beginning(path: &[u8], most: usize) -> Option<Vec<u8>> {
 }
 
 fn schedule(schedule: &[u8], table: &mut Table) -> String {
-    let mut lent = [EMPTY_ROW; MOST as usize];
+    let mut lent = [Lent::EMPTY; MOST as usize];
     let answer = waited::report(schedule, table, &mut lent);
     let mut line = format!("{} {} {}", answer.refusal, answer.line, answer.laid);
     for row in &lent[..answer.laid as usize] {

@@ -13,10 +13,10 @@ pub const LISTS: u64 = 300;
 /// In the place of a refusal when the report fails in the middle, as it can where it should have refused.
 const FAILED: u8 = 255;
 
-/// A schedule of a list: its number among the random ones, and how many rows it is lent.
-#[derive(Clone, Copy)]
+/// A schedule of a list: its number among the random ones, its text, and how many rows it is lent.
 pub struct Item {
     pub number: u64,
+    pub text: Vec<u8>,
     pub lent: usize,
 }
 
@@ -29,7 +29,8 @@ pub struct List {
 
 /// What comes back for one schedule.
 pub struct Reported {
-    pub item: Item,
+    /// Which of the list it is.
+    pub k: usize,
     pub answer: Answer,
     /// The table before and after it.
     pub before: Table,
@@ -43,22 +44,20 @@ pub fn list(i: u64) -> List {
     let random = &mut Random { x: (i * 7919 + 43) % 2147483648 };
     let size = 1 + random.draw(6);
     let items: Vec<Item> = (0..size).map(|_| item(random, i % 2 == 0)).collect();
-    let start = start(random, items[0]);
+    let start = start(random, &items[0].text);
     let turn = random.draw(size) as usize;
     List { items, start, turn }
 }
 
 /// The next schedule of a list. Those of an even list are not damaged and are lent all rows.
 fn item(random: &mut Random, even: bool) -> Item {
-    let number = random.draw(random::SCHEDULES);
-    if even {
-        return Item { number: 4 * (number / 4), lent: MOST as usize };
-    }
-    let lent = if random.draw(3) == 0 { random.draw(18) as usize } else { MOST as usize };
-    Item { number, lent }
+    let drawn = random.draw(random::SCHEDULES);
+    let number = if even { 4 * (drawn / 4) } else { drawn };
+    let lent = if !even && random.draw(3) == 0 { random.draw(18) as usize } else { MOST as usize };
+    Item { number, text: random::schedule(number), lent }
 }
 
-fn start(random: &mut Random, first: Item) -> Table {
+fn start(random: &mut Random, first: &[u8]) -> Table {
     let mut table = Table::ZERO;
     match random.draw(4) {
         0 | 1 => (),
@@ -70,8 +69,8 @@ fn start(random: &mut Random, first: Item) -> Table {
 
 /// Fills the cell in which the first schedule alone counts most, so that its count is the last that fits, or the first
 /// that does not.
-fn fill_one(random: &mut Random, first: Item, table: &mut Table) {
-    let alone = reported(Item { lent: MOST as usize, ..first }, table).after;
+fn fill_one(random: &mut Random, first: &[u8], table: &mut Table) {
+    let (_, alone, _) = reported(first, MOST as usize, &Table::ZERO);
     let most = alone.cells().max().unwrap_or(0);
     // A refused report leaves all cells 0, and so cell 0 0 is the one.
     let cell = table.counts.iter_mut().flatten().zip(alone.cells()).find(|(_, count)| *count == most);
@@ -85,17 +84,15 @@ pub fn rows(lent: usize) -> Vec<Lent> {
     (0..lent as u32).map(row).collect()
 }
 
-/// The report of a schedule from a table.
-fn reported(item: Item, before: &Table) -> Reported {
+/// The report of a schedule from a table: the answer, the table after it, and the rows lent as they then are.
+fn reported(schedule: &[u8], lent: usize, before: &Table) -> (Answer, Table, Vec<Lent>) {
     let result = catch_unwind(|| {
-        let mut table = *before;
-        let mut lent = rows(item.lent);
-        let answer = waited::report(&random::schedule(item.number), &mut table, &mut lent);
-        (answer, table, lent)
+        let (mut table, mut rows) = (*before, rows(lent));
+        let answer = waited::report(schedule, &mut table, &mut rows);
+        (answer, table, rows)
     });
     let failed = Answer { refusal: FAILED, line: 0, laid: 0 };
-    let (answer, after, lent) = result.unwrap_or_else(|_| (failed, *before, rows(item.lent)));
-    Reported { item, answer, before: *before, after, lent }
+    result.unwrap_or_else(|_| (failed, *before, rows(lent)))
 }
 
 impl List {
@@ -111,11 +108,10 @@ impl List {
 
     /// The reports of the list in an order.
     pub fn reports(&self, order: &[usize]) -> Vec<Reported> {
-        let mut table = self.start;
-        let next = |k: &usize| {
-            let reported = reported(self.items[*k], &table);
-            table = reported.after;
-            reported
+        let mut before = self.start;
+        let next = |&k: &usize| {
+            let (answer, after, lent) = reported(&self.items[k].text, self.items[k].lent, &before);
+            Reported { k, answer, before: std::mem::replace(&mut before, after), after, lent }
         };
         order.iter().map(next).collect()
     }

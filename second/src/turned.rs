@@ -22,11 +22,9 @@ pub struct Orders {
 impl Orders {
     pub fn add(&mut self, list: &List, first: &[Reported], other: &[Reported]) {
         let order = list.other_order();
-        let refusals: Vec<u8> = order.iter().map(|&k| first[k].answer.refusal).collect();
-        let other_refusals: Vec<u8> = other.iter().map(|reported| reported.answer.refusal).collect();
-        let refused_differ = refusals != other_refusals;
+        let refused_differ = other.iter().any(|reported| first[reported.k].answer != reported.answer);
         let tables_differ = first.last().map(|r| r.after) != other.last().map(|r| r.after);
-        let accepted = refusals.iter().all(|&refusal| refusal == 0);
+        let accepted = first.iter().all(|reported| reported.answer.refusal == 0);
         self.lists += 1;
         self.accepted += accepted as u64;
         self.accepted_turned += (accepted && order != list.order()) as u64;

@@ -17,6 +17,10 @@ pub struct Lent {
     pub joins: u32,
 }
 
+impl Lent {
+    pub const EMPTY: Lent = Lent { entries: 0, interrupts: 0, joins: 0 };
+}
+
 /// What is said of a schedule: the refusal with its line, both 0 for none, and how many rows are laid down.
 #[derive(Clone, Copy, PartialEq, Eq)]
 pub struct Answer {
@@ -86,12 +90,14 @@ impl Run {
 
     /// What the run lays down, a row for each processor.
     fn rows(&self) -> Vec<Lent> {
-        (0..self.n).map(|p| self.row(p)).collect()
-    }
-
-    fn row(&self, p: u8) -> Lent {
-        let count = |is: fn(&Act) -> bool| self.acts.iter().filter(|act| act.processor == p && is(act)).count() as u32;
-        Lent { entries: count(|act| act.entry), interrupts: count(|act| act.interrupt), joins: count(|act| act.join) }
+        let mut rows = vec![Lent::EMPTY; self.n as usize];
+        for act in &self.acts {
+            let row = &mut rows[act.processor as usize];
+            row.entries += act.entry as u32;
+            row.interrupts += act.interrupt as u32;
+            row.joins += act.join as u32;
+        }
+        rows
     }
 }
 
