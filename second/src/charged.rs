@@ -150,9 +150,6 @@ const KINDS: &[Kind] = &[
     ("old, accepted, and a first try waited", |s| s.accepted() && s.edition_is(OLD) && s.waited()),
 ];
 
-/// Those of them that these lists do not come to: few are lent too few rows, and few of those have a full table.
-const NOT_MET: &[&str] = &["refused by 13, and 12 would apply too"];
-
 /// Those that must not be.
 const WRONG: &[Kind] = &[
     ("another refusal, line or number of rows than wanted", |s| !s.answer_good()),
@@ -253,13 +250,8 @@ fn print_refusals(counts: &Counts, report: &mut Report) {
         report.demand(counts.own[refusal as usize], 1, &words);
     }
     for ((words, _), number) in KINDS.iter().zip(counts.kinds) {
-        if NOT_MET.contains(words) {
-            report.number(&format!("{}: not met", words), number);
-            report.forbid(number, &format!("{}, listed as not met", words));
-        } else {
-            report.number(words, number);
-            report.demand(number, 1, words);
-        }
+        report.number(words, number);
+        report.demand(number, 1, words);
     }
     report.line("in both orders");
     for ((words, _), number) in WRONG.iter().zip(counts.wrong) {

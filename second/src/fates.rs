@@ -50,10 +50,6 @@ const FATES: &[Fate] = &[
     fate("open at the end, through some, not charged", QUEUES, |j| open(j) && !j.entries.is_empty()),
 ];
 
-/// The first processor whose entries these lists do not charge, and the first whose waiting: few runs have so many.
-const ENTRIES_CHARGED: usize = 14;
-const WAITING_CHARGED: usize = 13;
-
 /// What the accepted schedules of one edition show.
 #[derive(Clone, Copy, Default)]
 pub struct Shown {
@@ -120,21 +116,17 @@ pub fn print(editions: &[Shown; EDITIONS.len()], report: &mut Report) {
 fn print_processors(editions: &[Shown], report: &mut Report) {
     let numbers: String = (0..MOST).map(|p| format!("{:>5}", p)).collect();
     report.line(&format!("{:<20}{}", "processor", numbers));
-    print_charged(report, "its entries charged", ENTRIES_CHARGED, |p| editions.iter().map(|shown| shown.of[p]).sum());
-    print_charged(report, "charged its waiting", WAITING_CHARGED, |p| editions.iter().map(|shown| shown.to[p]).sum());
+    print_charged(report, "its entries charged", |p| editions.iter().map(|shown| shown.of[p]).sum());
+    print_charged(report, "charged its waiting", |p| editions.iter().map(|shown| shown.to[p]).sum());
 }
 
-/// A line of them. Those from `end` on are not met.
-fn print_charged(report: &mut Report, words: &str, end: usize, charged: impl Fn(usize) -> u64) {
+/// A line of them.
+fn print_charged(report: &mut Report, words: &str, charged: impl Fn(usize) -> u64) {
     let numbers: Vec<u64> = (0..MOST as usize).map(charged).collect();
     let text: String = numbers.iter().map(|number| format!("{:>5}", number)).collect();
     report.line(&format!("{:<20}{}", words, text));
     for (p, &number) in numbers.iter().enumerate() {
-        if p < end {
-            report.demand(number, 1, &format!("{}, processor {}", words, p));
-        } else {
-            report.forbid(number, &format!("{}, processor {}, listed as not met", words, p));
-        }
+        report.demand(number, 1, &format!("{}, processor {}", words, p));
     }
 }
 

@@ -2,7 +2,7 @@
 //! answers.
 
 use crate::lock::MOST;
-use crate::random::{self, Random};
+use crate::random::{self, Random, CROWDED, SCHEDULES};
 use crate::table::Table;
 use crate::waited::{self, Answer, Lent};
 use std::panic::catch_unwind;
@@ -51,9 +51,10 @@ pub fn list(i: u64) -> List {
 
 /// The next schedule of a list. Those of an even list are not damaged and are lent all rows.
 fn item(random: &mut Random, even: bool) -> Item {
-    let drawn = random.draw(random::SCHEDULES);
+    let crowded = random.draw(16) == 0;
+    let drawn = if crowded { SCHEDULES + random.draw(CROWDED) } else { random.draw(SCHEDULES) };
     let number = if even { 4 * (drawn / 4) } else { drawn };
-    let lent = if !even && random.draw(3) == 0 { random.draw(18) as usize } else { MOST as usize };
+    let lent = if !even && random.draw(2) == 0 { random.draw(18) as usize } else { MOST as usize };
     Item { number, text: random::schedule(number), lent }
 }
 
@@ -61,7 +62,7 @@ fn start(random: &mut Random, first: &[u8]) -> Table {
     let mut table = Table::ZERO;
     match random.draw(4) {
         0 | 1 => (),
-        2 => table.counts.iter_mut().flatten().for_each(|count| *count = u32::MAX - random.draw(256) as u32),
+        2 => table.counts.iter_mut().flatten().for_each(|count| *count = u32::MAX - random.draw(32) as u32),
         _ => fill_one(random, first, &mut table),
     }
     table

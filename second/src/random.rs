@@ -7,6 +7,10 @@ use crate::lock::OLD;
 
 /// How many schedules are compared.
 pub const SCHEDULES: u64 = 800;
+/// From this number on they are crowded: all processors, and as many events as fit. Only reports use them.
+const FIRST_CROWDED: u64 = SCHEDULES;
+/// How many of those there are.
+pub const CROWDED: u64 = 16;
 /// The first of those that are of the old edition. Before it the other editions take turns.
 const FIRST_OLD: u64 = 480;
 /// The first of those that are in lower or mixed case. From it on all editions take turns.
@@ -52,8 +56,13 @@ struct Plan {
 
 impl Plan {
     fn draw(i: u64, random: &mut Random) -> Plan {
-        let n = if random.draw(2) == 0 { 1 + random.draw(16) } else { 2 + random.draw(3) };
-        let count = if i % 40 == 38 { 6000 } else { 20 + random.draw(480) };
+        let crowded = i >= FIRST_CROWDED;
+        let n = match crowded {
+            true => 16,
+            false if random.draw(2) == 0 => 1 + random.draw(16),
+            false => 2 + random.draw(3),
+        };
+        let count = if crowded || i % 40 == 38 { 6000 } else { 20 + random.draw(480) };
         let raises = random.draw(4);
         let stay = 1 + random.draw(8);
         let damage = if i % 4 == 3 { 1 + random.draw(10) } else { 0 };
