@@ -61,3 +61,85 @@ tallies-are : (text : List ℕ) → talliesBy (accountsOf (firstState text) (hea
 unfolding talliesBy tallyOf accountOf
 tallies-are text =
     upto-same _ _ processors (λ p l. ap (λ (x : Account). x .tally) (account-at (firstState text) (heardOf text) p l))
+
+-- N is at most 16 where nothing is refused
+verdict-first : (text : List ℕ) → verdictOf text .refusal ≡ 0 → firstRefusal text ≡ 0
+unfolding verdictOf
+verdict-first text h =
+    ⊎-elim (λ (long : ltb longest (length text) ≡ true). absurd (never (simp long at h)))
+    (λ (short : ltb longest (length text) ≡ false).
+    ⊎-elim (λ (e : eqb (firstRefusal text) 0 ≡ true). eqb-true (firstRefusal text) 0 e)
+    (λ (e : eqb (firstRefusal text) 0 ≡ false). simp (short, e) at h)
+    (cases (eqb (firstRefusal text) 0)))
+    (cases (ltb longest (length text)))
+  where
+    never : _≡_ {A = ℕ} 1 0 → ⊥
+    never e = omega arith
+
+pub processors-within : (text : List ℕ) → verdictOf text .refusal ≡ 0 → processorsOf text ≤ processors
+processors-within text h = log-is-run text .in-range (verdict-first text h) .most
+
+-- a report that was made along a schedule
+module _ (text : List ℕ) (table : List (List ℕ)) (lent : ℕ) (f : Followed) (found : Follows text f) where
+  abbrev Ends : Measured → Type 0
+  Ends m = (m ≡ measuredOf text table lent) × ((m .count ≤ lent) × (m .count ≤ processors))
+
+  -- what is not refused, and what is: the answer alone
+  abbrev laid : Reported → Measured
+  laid r = record { told = r; count = processorsOf text; rows = upto processors (tallyOf text) }
+
+  refused-so : (m : Measured) (told : Reported) → m ≡ unmeasured told → told ≡ reportedOf text table lent
+      → eqb (told .refusal) 0 ≡ false → Ends m
+  unfolding measuredOf
+  refused-so m told e is some =
+      let nothing : m .count ≡ 0 = ap (λ (x : Measured). x .count) e in (
+        e ∙ sym (ap (measuredAs text) (sym is) ∙ ap (λ (b : Bool). cond b (laid told) (unmeasured told)) some),
+        (omega arith, omega arith),
+      )
+
+  pub own : eqb (f .refusal) 0 ≡ false → (told : Reported) → told ≡ record { refusal = f .refusal; line = f .line; table = table }
+      → (m : Measured) → m ≡ unmeasured told → Ends m
+  unfolding reportedOf
+  own some told e m is =
+      let not-zero : eqb (verdictOf text .refusal) 0 ≡ false = ap (λ (r : ℕ). eqb r 0) (sym (found .refusal)) ∙ some in
+      refused-so m told is
+      (e ∙ ap (λ (r : ℕ). record { refusal = r; line = f .line; table = table }) (found .refusal)
+      ∙ ap (λ (l : ℕ). record { refusal = verdictOf text .refusal; line = l; table = table }) (found .line)
+      ∙ simp not-zero)
+      (ap (λ (x : Reported). eqb (x .refusal) 0) e ∙ some)
+
+  module _ (none : eqb (f .refusal) 0 ≡ true) where
+    zero-told : verdictOf text .refusal ≡ 0
+    zero-told = sym (found .refusal) ∙ eqb-true (f .refusal) 0 none
+
+    pub few : ltb lent (f .n) ≡ true → (told : Reported) → told ≡ record { refusal = 13; line = 0; table = table }
+        → (m : Measured) → m ≡ unmeasured told → Ends m
+    unfolding reportedOf
+    few short told e m is =
+        let not-enough : ltb lent (processorsOf text) ≡ true = ap (ltb lent) (sym (found .n zero-told)) ∙ short in
+        refused-so m told is (e ∙ simp (zero-told, not-enough)) (ap (λ (x : Reported). eqb (x .refusal) 0) e)
+
+    module _ (enough : ltb lent (f .n) ≡ false) (told : Reported) (e : told ≡ countsAdded table (cell (chargesBy (f .accounts)))) where
+      told-is : told ≡ reportedOf text table lent
+      unfolding reportedOf
+      told-is =
+          let rows : ltb lent (processorsOf text) ≡ false = ap (ltb lent) (sym (found .n zero-told)) ∙ enough in
+          e ∙ ap (λ (x : List Account). countsAdded table (cell (chargesBy x))) (found .accounts zero-told)
+          ∙ added-same table (cell (chargesBy (accountsOf (firstState text) (heardOf text)))) (chargesOf text)
+          (charge-at (firstState text) (heardOf text))
+          ∙ simp (zero-told, rows)
+
+      pub over : eqb (told .refusal) 0 ≡ false → (m : Measured) → m ≡ unmeasured told → Ends m
+      over some m is = refused-so m told is told-is some
+
+      pub counted : eqb (told .refusal) 0 ≡ true → (rows : List Tally) → rows ≡ talliesBy (f .accounts)
+          → Ends (record { told = told; count = f .n; rows = rows })
+      unfolding measuredOf
+      counted all rows is =
+          let within : f .n ≤ processors = subst (λ (k : ℕ). k ≤ processors) (sym (found .n zero-told)) (processors-within text zero-told) in (
+            ap (λ (k : ℕ). record { told = told; count = k; rows = rows }) (found .n zero-told)
+                ∙ ap (λ (x : List Tally). record { told = told; count = processorsOf text; rows = x })
+                (is ∙ ap talliesBy (found .accounts zero-told) ∙ tallies-are text)
+                ∙ sym (ap (measuredAs text) (sym told-is) ∙ ap (λ (b : Bool). cond b (laid told) (unmeasured told)) all),
+            (ltb-false lent (f .n) enough, within),
+          )

@@ -50,8 +50,8 @@ pub fn by_value(schedule: &[u8], table: [[u32; 16]; 16], lent: usize) -> Measure
     let accounts = heard.accounts;
     let charges = counting::charges(accounts);
     let told = tables::added(table, charges);
-    let over = told.refusal != 0;
-    if over {
+    let over = told.refusal;
+    if over != 0 {
         return refused(told);
     }
     let rows = counting::tallies(accounts);
