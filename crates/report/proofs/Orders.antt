@@ -12,7 +12,7 @@ use mathlib.Core.Bool.{Bool, true, false, cond, not, _&&_}
 use mathlib.Core.List.{List, [], _∷_, _++_}
 use lib.ListN.{length, getD, take, drop, replicate, getD-replicate}
 use lib.Dec.{eqb, ltb}
-use borrow.Author.Tests.{ne-eqb, leb-true, le-leb}
+use borrow.Author.Tests.{eq-eqb, ne-eqb, leb-true, le-leb}
 use Rattle.choice.proofs.Numbers.{every-at, every-from}
 use Rattle.choice.proofs.Tests.{clash, and-left, and-right}
 use Rattle.lock.specs.State.{processors}
@@ -70,10 +70,10 @@ isAccepted text = eqb (verdictOf text .refusal) 0
 abbrev areFew : List ℕ → ℕ → Bool
 areFew text lent = ltb lent (processorsOf text)
 
-abbrev passes : Given → Bool
+abbrev pub passes : Given → Bool
 passes g = isAccepted (g .text) && not (areFew (g .text) (g .lent))
 
-abbrev counts : Given → Counts
+abbrev pub counts : Given → Counts
 counts g = chargesOf (g .text)
 
 -- the first of a list is not refused, nor are the others after it
@@ -93,8 +93,15 @@ module _ (table : List (List ℕ)) (g : Given) where
   unrefused h =
       judged-passed (g .text) table (isAccepted (g .text)) (areFew (g .text) (g .lent)) (holds table (counts g)) refl h
 
+  -- counts that do not fit leave the table as it was
+  pub not-added : holds table (counts g) ≡ false → reportOf table g .table ≡ table
+  unfolding reportedOf countsAdded
+  not-added h =
+      judged-stays (g .text) table (isAccepted (g .text)) (areFew (g .text) (g .lent)) (holds table (counts g))
+      (λ z. clash (unrefused (eq-eqb (reportOf table g .refusal) 0 z) .1) h)
+
   module _ (more : List Given) where
-    table-then :
+    pub table-then :
         passes g ≡ true → holds table (counts g) ≡ true
         → tableAfter table (g ∷ more) ≡ tableAfter (raised table (counts g)) more
     unfolding tableAfter
@@ -131,7 +138,7 @@ raised-is :
 unfolding raised
 raised-is t f sums h = upto-same _ _ processors (λ a la. upto-same _ _ processors (λ b lb. h a b la lb))
 
-cell-raised :
+pub cell-raised :
     (t : List (List ℕ)) (f : Counts) (a b : ℕ) → a < processors → b < processors
     → cell (raised t f) a b ≡ cell t a b + f a b
 unfolding raised cell
@@ -139,13 +146,13 @@ cell-raised t f a b la lb =
     ap (λ (r : List ℕ). getD r b 0) (upto-at (λ x. upto processors (λ y. cell t x y + f x y)) processors a [] la)
     ∙ upto-at (λ y. cell t a y + f a y) processors b 0 lb
 
-holds-at :
+pub holds-at :
     (t : List (List ℕ)) (f : Counts) → holds t f ≡ true
     → (a b : ℕ) → a < processors → b < processors → cell t a b + f a b ≤ greatest
 unfolding holds
 holds-at t f e a b la lb = leb-true _ _ (every-at processors _ (every-at processors _ e a la) b lb)
 
-holds-from :
+pub holds-from :
     (t : List (List ℕ)) (f : Counts)
     → ((a b : ℕ) → a < processors → b < processors → cell t a b + f a b ≤ greatest) → holds t f ≡ true
 unfolding holds

@@ -5,5 +5,7 @@ pub mod Table
 pub mod Report
 pub mod Order
 pub mod AtMost
+pub mod Sharp
+pub mod Unique
 pub mod Accounts
 pub mod Followed

@@ -1,7 +1,9 @@
 // What is claimed of the report, as contracts: an empty function promises each, so that a check names it. The statements are those
-// of `specs/Order.antt` and `specs/AtMost.antt`; nobody needs to call these.
+// of `specs/Order.antt`, `specs/AtMost.antt`, `specs/Sharp.antt` and `specs/Unique.antt`; nobody needs to call these.
 ghost use Rattle.report.specs.Order.{AnyOrder, PartsAddUp, RefusedAddsNothing};
 ghost use Rattle.report.specs.AtMost.{ChargedOnce, DiagonalIsZero};
+ghost use Rattle.report.specs.Sharp.{ReportIsSharp};
+ghost use Rattle.report.specs.Unique.{OnlyOneAnswerFits};
 
 // Where no schedule is refused, another order refuses none and gives the same table.
 pub fn any_order()
@@ -26,4 +28,14 @@ pub fn charged_once()
 // Nobody is charged for its own entries.
 pub fn diagonal_is_zero()
     ensures { λ _. ⌜ DiagonalIsZero ⌝ }
+{}
+
+// Computed: these claims are met, and none holds without its premise.
+pub fn report_is_sharp()
+    ensures { λ _. ⌜ ReportIsSharp ⌝ }
+{}
+
+// Two answers that meet a public contract are one.
+pub fn only_one_answer_fits()
+    ensures { λ _. ⌜ OnlyOneAnswerFits ⌝ }
 {}
