@@ -1,19 +1,22 @@
 // Random and damaged schedules through the bench: a line for each with its log's length and digest, and a few logs whole. Then
 // states handed in at random, each with one event. Then short schedules with every pair of bytes, and with every byte at each
-// place. All are those of docs/RANDOM.md; what is printed is held to what the second program prints of the same page.
+// place. Then reports over lists of the schedules. All are those of docs/RANDOM.md; what is printed is held to what the second
+// program prints of the same page.
 mod bytes;
 mod damage;
 mod dice;
 mod digest;
 mod handed;
+mod list;
 mod plan;
+mod reported;
+mod start;
 mod state;
 mod text;
 
 use bytes::Sweep;
 use libc::STDOUT_FILENO;
-
-const SCHEDULES: u64 = 800;
+use list::List;
 
 fn main() {
     // 54,010 bytes for a schedule that is too long.
@@ -23,11 +26,12 @@ fn main() {
     states();
     pairs(&mut log);
     places(&mut log);
+    reports(&mut schedule);
 }
 
 fn schedules(schedule: &mut [u8], log: &mut [u8]) {
     let mut i: u64 = 0;
-    while i < SCHEDULES {
+    while i < plan::SCHEDULES {
         run(i, schedule, log);
         i += 1;
     }
@@ -57,19 +61,35 @@ fn places(log: &mut [u8]) {
     }
 }
 
+fn reports(schedule: &mut [u8]) {
+    for i in 0..list::LISTS {
+        report(i, schedule);
+    }
+}
+
+// List number i: drawn, reported in its order and in another, and told.
+fn report(i: u64, schedule: &mut [u8]) {
+    let list = List::drawn(i);
+    let mut table = [[0; 16]; 16];
+    let dice = start::drawn(list, &mut table, schedule);
+    let turn = dice.roll(list.size);
+    let told = reported::reported(list, table, schedule);
+    let other = reported::reported(list.turned(turn.got), table, schedule);
+    put(i, told.refused, told.answers);
+    io::write_all(STDOUT_FILENO, b" ");
+    print(told.table, other.refused, other.table);
+}
+
 // Schedule number i: made, run and shown.
 fn run(i: u64, schedule: &mut [u8], log: &mut [u8]) {
     let length = text::make(plan::planned(i), schedule);
-    tell(i, schedule, length, log);
+    tell(i, text::made(schedule, length), log);
 }
 
-fn tell(i: u64, schedule: &[u8], length: usize, log: &mut [u8]) {
-    if length <= schedule.len() {
-        let made = &schedule[..length];
-        let logged = bench::bench(made, log);
-        let n = logged.length;
-        show(i, made, &log[..n]);
-    }
+fn tell(i: u64, schedule: &[u8], log: &mut [u8]) {
+    let logged = bench::bench(schedule, log);
+    let n = logged.length;
+    show(i, schedule, &log[..n]);
 }
 
 // The number of a schedule, its log's length and digest; the schedule's own digest, where its letters' case is drawn; and the

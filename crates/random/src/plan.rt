@@ -2,6 +2,8 @@
 use crate::dice::Dice;
 use crate::state;
 
+pub const SCHEDULES: u64 = 800;
+
 // The schedules from this one on are of edition 3.
 const OLD_FROM: u64 = 480;
 

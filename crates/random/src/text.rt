@@ -14,6 +14,14 @@ pub fn make(plan: Plan, text: &mut [u8]) -> usize {
     harm(plan, made, text)
 }
 
+// A schedule in the buffer that it was written into.
+pub fn made(text: &[u8], length: usize) -> &[u8] {
+    if length <= text.len() {
+        return &text[..length];
+    }
+    text
+}
+
 // One line at `at`, where there is room for it.
 fn line(text: &mut [u8], at: usize, first: u64, second: u64, third: u64) -> usize {
     let room = text.len();
