@@ -1,5 +1,5 @@
-// The line of one answer: decimal numbers with single spaces. It is put together in a buffer and written by one call, since the files
-// may be thousands.
+// The line of one answer: decimal numbers with single spaces. It is put together in a buffer and written by one call, since there
+// may be thousands of files.
 use libc::STDOUT_FILENO;
 use report::Measured;
 use report::Tally;

@@ -1,5 +1,5 @@
-// lockreport: a report over files in numbers (docs/RANDOM.md, "A report in numbers"). Each argument names a schedule or a table; its
-// line is written, and the table goes on to the next. All that matters is in `report`.
+// lockreport: a report in numbers over the files that its arguments name (docs/RANDOM.md). Each is a schedule or a table; a line is
+// written for it, and the table goes on to the next. All that matters is in `report`.
 mod line;
 mod text;
 

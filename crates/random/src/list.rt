@@ -7,7 +7,7 @@ pub const LISTS: u64 = 300;
 // A list has at most so many schedules.
 const LONGEST: u64 = 6;
 
-// One schedule may be lent fewer rows than this, and so one more than there are processors at most.
+// A schedule is lent fewer rows than this: at most one more than there are processors.
 pub const LENT: u64 = 18;
 
 // The number of each schedule and its lent rows, and the dice after them.

@@ -3,6 +3,7 @@
 // place. Then reports over lists of the schedules. All are those of docs/RANDOM.md; what is printed is held to what the second
 // program prints of the same page.
 mod bytes;
+mod cells;
 mod damage;
 mod dice;
 mod digest;
@@ -63,12 +64,12 @@ fn places(log: &mut [u8]) {
 
 fn reports(schedule: &mut [u8]) {
     for i in 0..list::LISTS {
-        report(i, schedule);
+        run_list(i, schedule);
     }
 }
 
 // List number i: drawn, reported in its order and in another, and told.
-fn report(i: u64, schedule: &mut [u8]) {
+fn run_list(i: u64, schedule: &mut [u8]) {
     let list = List::drawn(i);
     let mut table = [[0; 16]; 16];
     let dice = start::drawn(list, &mut table, schedule);
@@ -83,7 +84,7 @@ fn report(i: u64, schedule: &mut [u8]) {
 // Schedule number i: made, run and shown.
 fn run(i: u64, schedule: &mut [u8], log: &mut [u8]) {
     let length = text::make(plan::planned(i), schedule);
-    tell(i, text::made(schedule, length), log);
+    tell(i, text::front(schedule, length), log);
 }
 
 fn tell(i: u64, schedule: &[u8], log: &mut [u8]) {

@@ -1,9 +1,9 @@
 // Schedules reported: one alone, or a list one after the other, with the digests of what is answered.
+use crate::cells;
 use crate::digest;
 use crate::list;
 use crate::list::List;
 use crate::plan;
-use crate::start;
 use crate::text;
 use report::Measured;
 use report::Tally;
@@ -19,7 +19,7 @@ pub struct Told {
 fn measured(number: u64, table: [[u32; 16]; 16], lent: u64, schedule: &mut [u8]) -> Measured {
     let length = text::make(plan::planned(number), schedule);
     let rows = (lent % list::LENT) as usize;
-    report::by_value(text::made(schedule, length), table, rows)
+    report::by_value(text::front(schedule, length), table, rows)
 }
 
 // The table after one schedule alone: where it is refused, zeros.
@@ -101,8 +101,8 @@ fn with_tally(h: u64, tally: Tally) -> u64 {
 
 fn with_table(h: u64, table: [[u32; 16]; 16]) -> u64 {
     let mut sum = h;
-    for cell in 0..start::CELLS {
-        sum = digest::with_number(sum, start::count(table, cell));
+    for cell in 0..cells::CELLS {
+        sum = digest::with_number(sum, cells::count(table, cell));
     }
     sum
 }

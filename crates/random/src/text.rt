@@ -14,8 +14,8 @@ pub fn make(plan: Plan, text: &mut [u8]) -> usize {
     harm(plan, made, text)
 }
 
-// A schedule in the buffer that it was written into.
-pub fn made(text: &[u8], length: usize) -> &[u8] {
+// The schedule alone, of the buffer that it was written into.
+pub fn front(text: &[u8], length: usize) -> &[u8] {
     if length <= text.len() {
         return &text[..length];
     }
