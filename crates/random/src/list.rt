@@ -89,11 +89,20 @@ fn before(k: u64, size: u64) -> u64 {
 
 // a schedule's number, in `got`: in an even list it is one that is not damaged
 fn chosen(d: Dice, even: bool) -> Dice {
-    let number = d.roll(plan::SCHEDULES);
+    let number = any(d);
     if even {
         return number.giving(number.got / 4 * 4);
     }
     number
+}
+
+// the number of any schedule, in `got`: one in sixteen is crowded
+fn any(d: Dice) -> Dice {
+    let coin = d.roll(16);
+    if coin.got == 0 {
+        return coin.roll(plan::CROWDED).plus(plan::SCHEDULES);
+    }
+    coin.roll(plan::SCHEDULES)
 }
 
 // how many rows are lent to a schedule, in `got`
@@ -101,7 +110,7 @@ fn rows(d: Dice, even: bool) -> Dice {
     if even {
         return d.giving(16);
     }
-    let coin = d.roll(3);
+    let coin = d.roll(2);
     if coin.got == 0 {
         return coin.roll(LENT);
     }

@@ -4,6 +4,9 @@ use crate::state;
 
 pub const SCHEDULES: u64 = 800;
 
+// The schedules past those are crowded ones, and only reported: all processors, and as many events as there can be.
+pub const CROWDED: u64 = 16;
+
 // The schedules from this one on are of edition 3.
 const OLD_FROM: u64 = 480;
 
@@ -30,7 +33,7 @@ pub struct Plan {
 }
 
 pub fn planned(i: u64) -> Plan {
-    let size = processors(Dice::seeded(i, 17));
+    let size = processors(Dice::seeded(i, 17), i);
     let n = size.got;
     let number = lines(size, i);
     let count = number.got;
@@ -67,7 +70,10 @@ fn edition(i: u64) -> u64 {
 }
 
 // N, in `got`
-fn processors(d: Dice) -> Dice {
+fn processors(d: Dice, i: u64) -> Dice {
+    if SCHEDULES <= i {
+        return d.giving(16);
+    }
     let coin = d.roll(2);
     if coin.got == 0 {
         return coin.roll(16).plus(1);
@@ -77,7 +83,7 @@ fn processors(d: Dice) -> Dice {
 
 // the number of event lines
 fn lines(d: Dice, i: u64) -> Dice {
-    if i % 40 == 38 {
+    if (SCHEDULES <= i) | (i % 40 == 38) {
         return d.giving(6000);
     }
     d.roll(480).plus(20)

@@ -25,8 +25,8 @@ pub fn drawn(list: List, table: &mut [[u32; 16]; 16], schedule: &mut [u8]) -> Di
 fn near(d: Dice, table: &mut [[u32; 16]; 16]) -> Dice {
     let mut dice = d;
     for cell in 0..cells::CELLS {
-        let short = dice.roll(256);
-        cells::put(table, cell, GREATEST - (short.got % 256) as u32);
+        let short = dice.roll(32);
+        cells::put(table, cell, GREATEST - (short.got % 32) as u32);
         dice = short;
     }
     dice
