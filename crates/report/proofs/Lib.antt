@@ -8,6 +8,7 @@ pub mod Measuring
 pub mod Latest
 pub mod Once
 pub mod Orders
+pub mod Laying
 pub mod Witness
 pub mod Values
 pub mod Adding

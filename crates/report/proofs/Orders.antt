@@ -88,7 +88,7 @@ module _ (table : List (List ℕ)) (g : Given) where
   told e h =
       judged-raised (g .text) table (isAccepted (g .text)) (areFew (g .text) (g .lent)) (holds table (counts g)) e h
 
-  unrefused : eqb (reportOf table g .refusal) 0 ≡ true → (passes g ≡ true) × (holds table (counts g) ≡ true)
+  pub unrefused : eqb (reportOf table g .refusal) 0 ≡ true → (passes g ≡ true) × (holds table (counts g) ≡ true)
   unfolding reportedOf countsAdded
   unrefused h =
       judged-passed (g .text) table (isAccepted (g .text)) (areFew (g .text) (g .lent)) (holds table (counts g)) refl h

@@ -4,6 +4,7 @@ pub mod Charges
 pub mod Table
 pub mod Report
 pub mod Order
+pub mod Laid
 pub mod AtMost
 pub mod Sharp
 pub mod Unique

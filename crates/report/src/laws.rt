@@ -1,6 +1,7 @@
 // What is claimed of the report, as contracts: an empty function promises each, so that a check names it. The statements are those
-// of `specs/Order.antt`, `specs/AtMost.antt`, `specs/Sharp.antt` and `specs/Unique.antt`; nobody needs to call these.
+// of `specs/Order.antt`, `specs/Laid.antt`, `specs/AtMost.antt`, `specs/Sharp.antt` and `specs/Unique.antt`; nobody needs to call these.
 ghost use Rattle.report.specs.Order.{AnyOrder, PartsAddUp, RefusedAddsNothing};
+ghost use Rattle.report.specs.Laid.{RowsAreLaid};
 ghost use Rattle.report.specs.AtMost.{ChargedOnce, DiagonalIsZero};
 ghost use Rattle.report.specs.Sharp.{ReportIsSharp};
 ghost use Rattle.report.specs.Unique.{OnlyOneAnswerFits};
@@ -18,6 +19,11 @@ pub fn parts_add_up()
 // A refused schedule leaves the table and the lent rows as they were.
 pub fn refused_adds_nothing()
     ensures { λ _. ⌜ RefusedAddsNothing ⌝ }
+{}
+
+// The first N lent rows hold the tallies, and those from N on are as they were.
+pub fn rows_are_laid()
+    ensures { λ _. ⌜ RowsAreLaid ⌝ }
 {}
 
 // In the plain and guarded editions an entry charges each pair at most 1.
