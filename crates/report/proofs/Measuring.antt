@@ -29,7 +29,7 @@ use Rattle.report.specs.declared.counting.Account.{Account}
 use Rattle.report.specs.declared.following.Followed.{Followed}
 use Rattle.report.specs.Charges.{charges}
 use Rattle.report.specs.Table.{upto, greatest, Counts, cell, holds, raised, countsAdded}
-use Rattle.report.specs.Report.{chargesOf, tallyOf, reportedOf, unmeasured, measuredAs, measuredOf}
+use Rattle.report.specs.Report.{chargesOf, tallyOf, reportedOf, unmeasured, laidDown, measuredAs, measuredOf}
 use Rattle.report.specs.Accounts.{accountOf, accountsOf, absent, chargesRow, chargesBy, talliesBy}
 use Rattle.report.specs.Followed.{Follows}
 use Rattle.report.proofs.Upto.{upto-at, upto-same}
@@ -84,16 +84,13 @@ module _ (text : List ℕ) (table : List (List ℕ)) (lent : ℕ) (f : Followed)
   abbrev Ends : Measured → Type 0
   Ends m = (m ≡ measuredOf text table lent) × ((m .count ≤ lent) × (m .count ≤ processors))
 
-  -- what is not refused, and what is: the answer alone
-  abbrev laid : Reported → Measured
-  laid r = record { told = r; count = processorsOf text; rows = upto processors (tallyOf text) }
-
+  -- what is refused: the answer alone
   refused-so : (m : Measured) (told : Reported) → m ≡ unmeasured told → told ≡ reportedOf text table lent
       → eqb (told .refusal) 0 ≡ false → Ends m
   unfolding measuredOf
   refused-so m told e is some =
       let nothing : m .count ≡ 0 = ap (λ (x : Measured). x .count) e in (
-        e ∙ sym (ap (measuredAs text) (sym is) ∙ ap (λ (b : Bool). cond b (laid told) (unmeasured told)) some),
+        e ∙ sym (ap (measuredAs text) (sym is) ∙ ap (λ (b : Bool). cond b (laidDown text told) (unmeasured told)) some),
         (omega arith, omega arith),
       )
 
@@ -140,6 +137,6 @@ module _ (text : List ℕ) (table : List (List ℕ)) (lent : ℕ) (f : Followed)
             ap (λ (k : ℕ). record { told = told; count = k; rows = rows }) (found .n zero-told)
                 ∙ ap (λ (x : List Tally). record { told = told; count = processorsOf text; rows = x })
                 (is ∙ ap talliesBy (found .accounts zero-told) ∙ tallies-are text)
-                ∙ sym (ap (measuredAs text) (sym told-is) ∙ ap (λ (b : Bool). cond b (laid told) (unmeasured told)) all),
+                ∙ sym (ap (measuredAs text) (sym told-is) ∙ ap (λ (b : Bool). cond b (laidDown text told) (unmeasured told)) all),
             (ltb-false lent (f .n) enough, within),
           )

@@ -22,7 +22,7 @@ use Rattle.report.specs.declared.Reported.{Reported}
 use Rattle.report.specs.declared.Measured.{Measured}
 use Rattle.report.specs.declared.Tally.{Tally}
 use Rattle.report.specs.Table.{upto, greatest, Counts, cell, holds, raised, countsAdded, addedTo}
-use Rattle.report.specs.Report.{chargesOf, tallyOf, reportedOf, unmeasured, measuredOf, rowsAfter}
+use Rattle.report.specs.Report.{chargesOf, reportedOf, unmeasured, laidDown, measuredOf, rowsAfter}
 use Rattle.report.specs.Order.{Given, reportOf, noneRefused, tableAfter, noCounts}
 use Rattle.report.specs.Order.{Rearranged, AnyOrder, PartsAddUp, RefusedAddsNothing}
 use Rattle.report.proofs.Upto.{upto-at, upto-same}
@@ -342,8 +342,7 @@ unfolding rowsAfter measuredOf
 rows-stay text table rows h =
     let r : Reported = reportedOf text table (length rows) in
     ap (λ (m : Measured). take (m .count) (m .rows) ++ drop (m .count) rows)
-    (ap (λ (b : Bool). cond b (record { told = r; count = processorsOf text; rows = upto processors (tallyOf text) })
-    (unmeasured r)) (ne-eqb (r .refusal) 0 h))
+    (ap (λ (b : Bool). cond b (laidDown text r) (unmeasured r)) (ne-eqb (r .refusal) 0 h))
 
 pub refused-adds-nothing : RefusedAddsNothing
 unfolding reportedOf countsAdded

@@ -41,11 +41,12 @@ reportedOf text table lent =
 abbrev pub unmeasured : Reported → Measured
 unmeasured r = record { told = r; count = 0; rows = replicate processors noTally }
 
--- "one for each processor": N rows are laid down
+-- "a list of rows, one for each processor": otherwise N rows are
+abbrev pub laidDown : List ℕ → Reported → Measured
+laidDown text r = record { told = r; count = processorsOf text; rows = upto processors (tallyOf text) }
+
 abbrev pub measuredAs : List ℕ → Reported → Measured
-measuredAs text r =
-    cond (eqb (r .refusal) 0) (record { told = r; count = processorsOf text; rows = upto processors (tallyOf text) })
-    (unmeasured r)
+measuredAs text r = cond (eqb (r .refusal) 0) (laidDown text r) (unmeasured r)
 
 unfoldable pub measuredOf : List ℕ → List (List ℕ) → ℕ → Measured
 measuredOf text table lent = measuredAs text (reportedOf text table lent)
