@@ -3,6 +3,7 @@
 // proofs are of their contracts alone. `report`, whose callers are walked by hand, is tied by its own walk.)
 use crate::Measured;
 use crate::Reported;
+use crate::Tally;
 ghost use mathlib.Core.Path.{_≡_};
 ghost use Prim.Native.Nat.{_≤_};
 ghost use Rattle.report.specs.Table.{addedTo};
@@ -19,4 +20,22 @@ fn told_added(t: [[u32; 16]; 16], m: [[u32; 16]; 16]) -> Reported
     ensures { λ r. ⌜ r ≡ addedTo t m ⌝ }
 {
     crate::added(t, m)
+}
+
+fn told_of(refusal: u8, line: usize, table: [[u32; 16]; 16]) -> Reported
+    ensures { λ r. ⌜ r ≡ record { refusal = refusal; line = line; table = table } ⌝ }
+{
+    Reported::of(refusal, line, table)
+}
+
+fn told_table_of(reported: Reported) -> [[u32; 16]; 16]
+    ensures { λ r. ⌜ r ≡ reported .table ⌝ }
+{
+    reported.table_of()
+}
+
+fn told_tallies(measured: Measured) -> [Tally; 16]
+    ensures { λ r. ⌜ r ≡ measured .rows ⌝ }
+{
+    measured.tallies()
 }
