@@ -1,6 +1,7 @@
-# parts.awk: one saved report or several, on standard input, to what the program and sum.awk take of each. The environment
-# has PART, the path where the files are to stand: PART1 and so on, each a table as the program reads it, and PART1.totals,
-# all else of the report: how it is called, then its numbers in one line. For each an argument of the program is printed.
+# parts.awk: one saved report or several, on standard input, to what the program and sum.awk take of each. The
+# environment has PART, the path where the files are to stand: PART1 and so on, each a table as the program reads it;
+# and PART1.totals, all else of the report: how it is called, then its numbers in one line. For each an argument of the
+# program is printed.
 
 BEGIN {
     parts = 0

@@ -1,14 +1,15 @@
-# report.awk: a report in numbers, on standard input, to the report for people. The environment has LEFT, the file with a
-# sentence for each that is left out. In order: who held up whom, by processor, the table, what is left out.
+# report.awk: a report in numbers, on standard input, to the report for people. The environment has LEFT, the file with
+# a sentence for each that is left out. In order: who held up whom, by processor, the table, what is left out.
 
 BEGIN {
     SHOWN = 20
     WIDEST = 120
+    highest = 0
     if (read_reports() != 1) not_saved("it is not one report")
+    add_up()
     print "Who made whom wait"
     print ""
-    print many(counted, "schedule", "schedules") " counted, " plain(left) " left out" (left > 0 ? ", named at the end" : "")
-    add_up()
+    print many(counted, "schedule", "schedules") " counted, " plain(left) " left out" (left ? ", named at the end" : "")
     greatest_first()
     by_processor()
     if (pairs_found > 0) matrix()
@@ -21,8 +22,8 @@ BEGIN {
 function took_report() {
 }
 
-# Sums of rows and of columns, the processors that occur, and the pairs in their order: greatest first, of equal ones the
-# first by number.
+# Sums of rows and of columns, the processors that occur, and the pairs in their order: greatest first, of equal ones
+# the first by number.
 function add_up(    a, b, k) {
     for (a = 0; a < PROCESSORS; a++) {
         for (k = 1; k <= KINDS; k++) occurs(a, total[a, k])
@@ -62,7 +63,8 @@ function greatest_first(    k, count, shown, size) {
     size = length(plain(charge[by_pair[1], of_pair[1]]))
     for (k = 1; k <= shown; k++) {
         count = charge[by_pair[k], of_pair[k]]
-        printf "%4d made %2d wait: %" size "s %s\n", by_pair[k], of_pair[k], plain(count), (count == 1 ? "entry" : "entries")
+        printf "%4d made %2d wait: %" size "s %s\n", by_pair[k], of_pair[k], plain(count), \
+            (count == 1 ? "entry" : "entries")
     }
     if (pairs_found > shown)
         print "     and " many(pairs_found - shown, "pair", "pairs") " more; the table has them all"
@@ -83,7 +85,9 @@ function by_processor(    p, k, old) {
         if (total[p, 1] > total[p, 3]) old = 1
     }
     print_table("rrrrrr")
-    if (old) print "More entries than joins: schedules of the old edition are among these; it has no joins, and charges nobody."
+    if (old)
+        print "More entries than joins: schedules of the old edition are among these; " \
+            "it has no joins, and charges nobody."
 }
 
 # ---- the table
@@ -97,7 +101,8 @@ function matrix(    b) {
 # As many columns as a line holds, from this one on; answers the one after them.
 function columns_from(first,    a, b, last, align, size) {
     size = length("a \\ b")
-    for (last = first; last <= highest && size + 2 + column_size(last) <= WIDEST; last++) size += 2 + column_size(last)
+    for (last = first; last <= highest && size + 2 + column_size(last) <= WIDEST; last++)
+        size += 2 + column_size(last)
     if (first > 0) print ""
     next_row()
     cell("a \\ b")

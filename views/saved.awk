@@ -1,14 +1,14 @@
-# saved.awk: a report in numbers, as `./lockreport --csv` prints it and --with takes it back: lines of as many fields as
-# a spreadsheet makes of them. In order: its form, reading, writing.
+# saved.awk: a report in numbers, as `./lockreport --csv` prints it and --with takes it back. All lines have the same
+# number of fields, as those that a spreadsheet writes. In order: its form, reading, writing.
 #
 #     lockreport 1,schedules counted,C,left out,L and empty fields
-#     processor,entries,interrupts,joins,made 0 wait, and so on up to made 15 wait
-#     for each processor a: its number, its totals, and for each b the entries of a that fell between a join of b and the
-#     entry that join led to
+#     processor,entries,interrupts,joins,made 0 wait and so on, up to made 15 wait
+#     for each processor a: its number, its totals, and for each b how many entries of a fell between a join of b and
+#     the entry that join led to
 #
-# What is read goes to counted, left, total[a, kind] and charge[a, b]. A view has a function took_report(), called when a
-# report is whole, and names what is read in the environment, as NAME. One that is not of this form gets a sentence with
-# its line, and the status 2.
+# What is read goes to counted, left, total[a, kind] and charge[a, b]. A view has a function took_report(), called when
+# a report is whole, and names what is read in the environment, as NAME. One that is not of this form gets a sentence
+# with its line, and the status 2.
 
 BEGIN {
     # a count of the table is the program's; the others are awk's own numbers, exact up to here

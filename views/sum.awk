@@ -1,6 +1,6 @@
 # sum.awk: the report so far, on standard input, to the report after one more call of the program. The environment has
-# ARGUMENTS and ANSWER, the files with the program's arguments, one a line, and with what it printed; `arguments` is their
-# number. A sentence for each that is left out goes to the end of the file LEFT.
+# ARGUMENTS and ANSWER, the files with the program's arguments, one a line, and with what it printed; `arguments` is
+# their number. A sentence for each that is left out goes to the end of the file LEFT.
 #
 # The table is as the program has it. The totals are added here, and never past what awk's numbers hold exactly.
 
