@@ -1,6 +1,6 @@
 # parts.awk: one saved report or several, on standard input, to what the program and sum.awk take of each. The
 # environment has PART, the path where the files are to stand: PART1 and so on, each a table as the program reads it;
-# and PART1.totals, all else of the report: how it is called, then its numbers in one line. For each an argument of the
+# and PART1.totals, all else of the report: its numbers in one line, then how it is called. For each an argument of the
 # program is printed.
 
 BEGIN {
@@ -22,7 +22,7 @@ function took_report(    path, a, b, k, line) {
     for (a = 0; a < PROCESSORS; a++)
         for (k = 1; k <= KINDS; k++) line = line " " plain(total[a, k])
     path = path ".totals"
-    print ENVIRON["NAME"] (parts == 1 ? "" : ", report " parts) > path
     print line > path
+    print ENVIRON["NAME"] (parts == 1 ? "" : ", report " parts) > path
     close(path)
 }

@@ -63,7 +63,7 @@ function greatest_first(    k, count, shown, size) {
     size = length(plain(charge[by_pair[1], of_pair[1]]))
     for (k = 1; k <= shown; k++) {
         count = charge[by_pair[k], of_pair[k]]
-        printf "%4d made %2d wait: %" size "s %s\n", by_pair[k], of_pair[k], plain(count), \
+        printf "%4d made %" length(highest) "d wait: %" size "s %s\n", by_pair[k], of_pair[k], plain(count), \
             (count == 1 ? "entry" : "entries")
     }
     if (pairs_found > shown)

@@ -56,8 +56,8 @@ function add_schedule(name,    n, p, k) {
 # A saved report, whose table the program has added, or has left out as a count would pass its limit.
 function add_part(path,    name, p, k) {
     path = path ".totals"
-    name = next_of(path)
     if (split(next_of(path), v, " ") != 2 + KINDS * PROCESSORS) broken()
+    name = next_of(path)
     close(path)
     if (answer == "12 0 0") leave(v[1] + v[2], name ": left out whole, no. 12: " refusal[12])
     else if (answer == "0 0 0") {
@@ -78,7 +78,7 @@ function leave(schedules, sentence) {
 function take_table(    a, b, line) {
     for (a = 0; a < PROCESSORS; a++) {
         line = next_of(answer_file)
-        if (line !~ /^[0-9 ]+$/ || split(line, v, " ") != PROCESSORS) broken()
+        if (line !~ /^[0-9 ]+$/ || length(line) != 11 * PROCESSORS - 1 || split(line, v, " ") != PROCESSORS) broken()
         for (b = 0; b < PROCESSORS; b++) {
             # one awk takes what begins with 0 for octal
             sub(/^0+/, "", v[b + 1])
