@@ -21,7 +21,7 @@ use Rattle.lock.specs.Kept.{Whole}
 use Rattle.frame.specs.Reading.{restOf}
 use Rattle.bench.specs.Log.{refusedAt, counted, rowShown, shown, Turn, stopped, turnOf, logFrom}
 use Rattle.bench.specs.Steps.{filled, laid, laterLog, linesRoom}
-use Rattle.bench.proofs.Sizes.{count-size, refusal-size, row-size, shown-size, GoesOn, Stops, turn-size}
+use Rattle.bench.proofs.Sizes.{count-size, refusal-size, row-size, GoesOn, Stops, turn-size}
 use Rattle.bench.proofs.Fuel.{log-ends, log-turns}
 use Rattle.bench.proofs.Frames.{shows}
 use Rattle.bench.proofs.Parts.{put, filled-by}

@@ -11,7 +11,6 @@ use mathlib.Core.List.{List, [], _∷_}
 use lib.ListN.{length, length-drop}
 use lib.Dec.{eqb}
 use Rattle.lock.specs.declared.LockState.{LockState}
-use Rattle.lock.specs.declared.Answer.{Answer}
 use Rattle.lock.specs.Event.{happens}
 use Rattle.lock.specs.Run.{Call, after}
 use Rattle.frame.specs.Reading.{Told, reads, restOf, refusedBy}

@@ -8,10 +8,10 @@ use Prim.Native.Nat.{ℕ, suc, _+_, _*_, _≤_, _<_}
 use native.Mathlib.Nat.{mul-le-mul-right}
 use native.Mathlib.Omega.{arith}
 use mathlib.Core.Path.{_≡_, refl, sym, ap, _∙_, subst}
-use mathlib.Core.Logic.{_≢_, ⊎-elim}
+use mathlib.Core.Logic.{_≢_}
 use mathlib.Core.Bool.{Bool, true, false, cond, not, _&&_, _||_}
 use mathlib.Core.List.{List, [], _∷_, _++_}
-use lib.ListN.{length, getD, set, replicate}
+use lib.ListN.{length, getD, set}
 use lib.Dec.{eqb, leb}
 use borrow.Author.Tests.{eq-eqb, ne-eqb, le-leb}
 use Rattle.choice.proofs.Tests.{neither-left, neither-right}
@@ -22,12 +22,11 @@ use Rattle.lock.specs.Event.{isStep, happens}
 use Rattle.lock.specs.Run.{Call, after, run, stepsOf, joins, enters, interrupted}
 use Rattle.lock.specs.Count.{countIn, entriesIn, interruptsIn, joinsIn}
 use Rattle.bench.specs.Log.{longest}
-use Rattle.report.specs.declared.Tally.{Tally}
 use Rattle.report.specs.declared.counting.Did.{Did}
 use Rattle.report.specs.declared.counting.Account.{Account}
 use Rattle.report.specs.Charges.{charge, charges}
 use Rattle.report.specs.Table.{upto, greatest, rowHolds, rowSum}
-use Rattle.report.specs.Accounts.{pendingIn, joinedIn, accountOf, accountsOf, absent, didBy, tallied, raisedAt, pendingThen, chargedThen, seenBy, notedBy, TallyFits, Fits, AllFit}
+use Rattle.report.specs.Accounts.{pendingIn, joinedIn, accountOf, accountsOf, absent, didBy, tallied, raisedAt, pendingThen, chargedThen, seenBy, notedBy, Fits, AllFit}
 use Rattle.report.proofs.Upto.{upto-at, upto-same, set-upto}
 use Rattle.report.proofs.Charging.{count-last, joined-after, pending-after, charge-at, charges-last, counted-within, pending-within, charges-within}
 

@@ -5,9 +5,8 @@
 --     goes-on         an event that is accepted: the loop stands one line further
 --     stops, ends     a line that is refused, and the end of the text: all that is asked is known
 -- Assumes nothing.
-use Prim.Native.Nat.{ℕ, suc, _+_, _*_, _≤_, _<_}
+use Prim.Native.Nat.{ℕ, _+_, _*_, _≤_, _<_}
 use native.Mathlib.Omega.{arith}
-use native.Mathlib.Numerals.{add-one}
 use mathlib.Core.Path.{_≡_, refl, sym, ap, _∙_, subst}
 use mathlib.Core.Logic.{⊎-elim}
 use mathlib.Core.Bool.{Bool, true, false, cond, not, _||_}
@@ -30,16 +29,15 @@ use Rattle.lock.proofs.Waiting.Demand.{run-last}
 use Rattle.frame.specs.Reading.{restOf}
 use Rattle.bench.specs.Log.{longest}
 use Rattle.bench.specs.Bridge.{callOf, lineRefusal}
-use Rattle.bench.specs.Verdict.{Verdict, laterVerdict}
+use Rattle.bench.specs.Verdict.{laterVerdict}
 use Rattle.bench.proofs.Sound.{happens-whole}
 use Rattle.bench.proofs.Heard.{heard-on, heard-stops, heard-end}
 use Rattle.report.specs.declared.counting.Did.{Did}
 use Rattle.report.specs.declared.counting.Account.{Account}
-use Rattle.report.specs.declared.following.Followed.{Followed}
 use Rattle.report.specs.Charges.{chargesFrom}
 use Rattle.report.specs.Table.{upto}
 use Rattle.report.specs.Accounts.{accountOf, accountsOf, noAccount, didBy, notedBy, AllFit}
-use Rattle.report.specs.Followed.{laterHeard, laterRefusal, followedAs, followedOf}
+use Rattle.report.specs.Followed.{laterHeard, followedAs, followedOf}
 use Rattle.report.proofs.Accounting.{Nothing, did, accounts-after, accounts-quiet, accounts-fit}
 
 -- an accepted call is of a processor below N

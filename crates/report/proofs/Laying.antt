@@ -5,7 +5,7 @@ use Prim.Native.Nat.{ℕ, _+_, _-_, _≤_, _<_}
 use native.Mathlib.Omega.{arith}
 use mathlib.Core.Path.{_≡_, refl, sym, ap, _∙_, subst}
 use mathlib.Core.Logic.{⊎-elim}
-use mathlib.Core.Bool.{Bool, true, false, cond, not}
+use mathlib.Core.Bool.{Bool, true, false, not}
 use mathlib.Core.List.{List, _++_}
 use lib.ListN.{length, getD, take, drop, length-append, length-drop, List·getD-append}
 use lib.Seq.{length-take-le, getD-take, getD-drop, getD-append-add}
@@ -16,7 +16,6 @@ use Rattle.lock.specs.State.{processors}
 use Rattle.bench.specs.Bridge.{processorsOf}
 use Rattle.bench.specs.Verdict.{verdictOf}
 use Rattle.report.specs.declared.Tally.{Tally}
-use Rattle.report.specs.declared.Measured.{Measured}
 use Rattle.report.specs.Table.{upto}
 use Rattle.report.specs.Report.{tallyOf, reportedOf, measuredOf, rowsAfter}
 use Rattle.report.specs.Laid.{Laid, RowsAreLaid}

@@ -5,7 +5,7 @@
 -- Assumes nothing.
 use Prim.Native.Nat.{ℕ, _+_, _≤_, _<_}
 use native.Mathlib.Omega.{arith}
-use mathlib.Core.Path.{_≡_, refl, sym, ap, _∙_, subst}
+use mathlib.Core.Path.{_≡_, sym, ap, _∙_, subst}
 use mathlib.Core.Logic.{⊎-elim}
 use mathlib.Core.Bool.{Bool, true, false, cond}
 use mathlib.Core.List.{List, []}
@@ -17,7 +17,6 @@ use Rattle.choice.proofs.Numbers.{every-same}
 use Rattle.lock.specs.State.{processors}
 use Rattle.lock.specs.declared.LockState.{LockState}
 use Rattle.lock.specs.Run.{Call}
-use Rattle.lock.specs.Count.{entriesIn, interruptsIn, joinsIn}
 use Rattle.bench.specs.Log.{longest}
 use Rattle.bench.specs.Bridge.{processorsOf, firstState, firstRefusal, heardOf}
 use Rattle.bench.specs.Verdict.{verdictOf}

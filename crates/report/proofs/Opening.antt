@@ -8,14 +8,13 @@
 -- Assumes nothing.
 use Prim.Native.Nat.{ℕ, _*_, _≤_, _<_}
 use native.Mathlib.Omega.{arith}
-use mathlib.Core.Path.{_≡_, refl, sym, ap, _∙_, subst}
+use mathlib.Core.Path.{_≡_, refl, sym, ap, _∙_}
 use mathlib.Core.Bool.{Bool, true, false, cond}
 use mathlib.Core.List.{List}
 use lib.ListN.{length, drop, length-drop}
-use lib.Dec.{eqb, ltb}
+use lib.Dec.{eqb}
 use borrow.Author.Tests.{eqb-true, eq-eqb, lt-ltb, le-ltb}
 use Rattle.choice.proofs.Tests.{clash}
-use Rattle.lock.specs.declared.LockState.{LockState}
 use Rattle.lock.specs.declared.Answer.{Answer}
 use Rattle.lock.specs.State.{freshState}
 use Rattle.lock.specs.Event.{fresh}
@@ -28,7 +27,6 @@ use Rattle.bench.proofs.Frames.{framed, refused-not-zero}
 use Rattle.bench.proofs.Hearing.{first-state}
 use Rattle.bench.proofs.Heard.{heard-fuel}
 use Rattle.report.specs.declared.following.Followed.{Followed}
-use Rattle.report.specs.Accounts.{accountsOf}
 use Rattle.report.specs.Followed.{laterHeard, followedAs, followedOf, Follows, LineOne}
 
 module _ (text : List ℕ) (f : Followed) where

@@ -1,7 +1,7 @@
 -- What the code carries from call to call for each processor b, in the words of the definitions; and what one call changes in it.
 --     accountOf     the account of b after the calls: its tally, whether it has joined, what is pending, what it was charged
 --     seenBy        an account after one more call
-use Prim.Native.Nat.{ℕ, suc, _+_, _<_}
+use Prim.Native.Nat.{ℕ, suc, _<_}
 use mathlib.Core.Path.{_≡_}
 use mathlib.Core.Bool.{Bool, true, false, cond, not, _&&_, _||_}
 use mathlib.Core.List.{List, []}

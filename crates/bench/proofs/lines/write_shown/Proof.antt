@@ -1,5 +1,5 @@
 -- `bench::lines::write_shown` meets its contract: the row's cells and its marks are those of `rowShown`.
-use mathlib.Core.Path.{ap, sym, _∙_}
+use mathlib.Core.Path.{ap, sym}
 use denote.Ref.{now}
 use borrow.Author.Needs.{needs}
 use Prim.Native.Nat.{_+_}

@@ -1,21 +1,16 @@
 -- `report::tables::row_sum` meets its contract. The loop's invariant: the cells below i are the sums.
-use Prim.Native.Nat.{ℕ, _+_, _-_, _≤_}
+use Prim.Native.Nat.{_-_, _≤_}
 use native.Mathlib.Omega.{arith}
 use mathlib.Core.Path.{_≡_, refl}
-use mathlib.Core.List.{List, _++_}
-use lib.ListN.{length, getD, drop}
-use lib.Dec.{leb}
+use mathlib.Core.List.{_++_}
+use lib.ListN.{length, drop}
 use borrow.Author.Needs.{needs}
-use borrow.Author.Tests.{leb-true}
-use Rattle.choice.proofs.Numbers.{every-at}
 use Rattle.lock.specs.State.{processors}
-use Rattle.report.specs.Table.{upto, greatest, rowHolds, rowSum}
+use Rattle.report.specs.Table.{upto, rowSum}
 use Rattle.report.proofs.Upto.{next, done}
+use Rattle.report.proofs.Adding.{sum, sum-fits}
 use Rattle.report.proofs.tables.row_sum.Statement.{statement}
 use Rattle.report.proofs.tables.row_sum.Tie as tie
-
-abbrev sum : List ℕ → List ℕ → ℕ → ℕ
-sum t m i = getD t i 0 + getD m i 0
 
 abbrev Inv-loop : tie.InvT-loop
 Inv-loop t m r₀ i₀ r i = (i ≤ processors) × (r ≡ upto i (sum t m) ++ drop i t)
@@ -28,11 +23,9 @@ unfolding upto
 loop-holds c = (search needs, refl)
 
 add-r : tie.Need-add-r Inv-loop μ-loop
-unfolding rowHolds
 add-r c =
     let args = c .before .before .args in
-    let h : sum (args .t1) (args .t2) (c .before .loop .i) ≤ greatest =
-    leb-true _ _ (every-at processors (λ i. leb (sum (args .t1) (args .t2) i) greatest) (c .before .before .pre) (c .before .loop .i) (omega arith)) in
+    let h = sum-fits (args .t1) (args .t2) (c .before .loop .i) (c .before .before .pre) (omega arith) in
     record { fits = omega (arith, h) }
 
 loop-again : tie.Need-loop-again Inv-loop μ-loop
