@@ -26,9 +26,11 @@ use Rattle.report.specs.declared.counting.Did.{Did}
 use Rattle.report.specs.declared.counting.Account.{Account}
 use Rattle.report.specs.Charges.{charge, charges}
 use Rattle.report.specs.Table.{upto, greatest, rowHolds, rowSum}
-use Rattle.report.specs.Accounts.{pendingIn, joinedIn, accountOf, accountsOf, absent, didBy, tallied, raisedAt, pendingThen, chargedThen, seenBy, notedBy, Fits, AllFit}
+use Rattle.report.specs.Accounts.{pendingIn, joinedIn, accountOf, accountsOf, absent, didBy, tallied}
+use Rattle.report.specs.Accounts.{raisedAt, pendingThen, chargedThen, seenBy, notedBy, Fits, AllFit}
 use Rattle.report.proofs.Upto.{upto-at, upto-same, set-upto}
-use Rattle.report.proofs.Charging.{count-last, joined-after, pending-after, charge-at, charges-last, counted-within, pending-within, charges-within}
+use Rattle.report.proofs.Charging.{count-last, joined-after, pending-after, charge-at}
+use Rattle.report.proofs.Charging.{charges-last, counted-within, pending-within, charges-within}
 
 -- ---- what the call is for each processor
 
@@ -87,7 +89,8 @@ raised-upto : (f : ℕ → ℕ) (p : ℕ) (entered : Bool) → p < processors
     ≡ cond entered (raisedAt (upto processors f) p) (upto processors f)
 unfolding raisedAt
 raised-upto f p true h =
-    upto-same _ _ processors (λ a l. by-same (λ (q : ℕ). cond (eqb q p && true) (suc (f q)) (f q) ≡ cond (eqb q p) (suc (f p)) (f q)) p
+    upto-same _ _ processors (λ a l.
+    by-same (λ (q : ℕ). cond (eqb q p && true) (suc (f q)) (f q) ≡ cond (eqb q p) (suc (f p)) (f q)) p
     (simp (eq-eqb p p refl)) (λ q d. simp (ne-eqb q p d)) a)
     ∙ sym (set-upto f processors p (suc (f p)) h)
     ∙ ap (λ (n : ℕ). set (upto processors f) p (suc n)) (sym (upto-at f processors p 0 h))

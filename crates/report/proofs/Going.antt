@@ -34,6 +34,7 @@ use Rattle.bench.proofs.Sound.{happens-whole}
 use Rattle.bench.proofs.Heard.{heard-on, heard-stops, heard-end}
 use Rattle.report.specs.declared.counting.Did.{Did}
 use Rattle.report.specs.declared.counting.Account.{Account}
+use Rattle.report.specs.declared.following.Followed.{Followed}
 use Rattle.report.specs.Charges.{chargesFrom}
 use Rattle.report.specs.Table.{upto}
 use Rattle.report.specs.Accounts.{accountOf, accountsOf, noAccount, didBy, notedBy, AllFit}
@@ -90,11 +91,14 @@ module _ (text : List ℕ) (first : LockState) (rest : List ℕ) (s : LockState)
       ≡ followedAs first (i .calls) (laterVerdict (lineRefusal s rest) accepted)
   unfolding followedOf
   finished none =
-      let all : laterHeard first text ≡ i .calls = i .heard ∙ ap (λ (cs : List Call). i .calls ++ cs) none ∙ append-nil (i .calls) in
-      ap (λ (cs : List Call). followedAs first cs (laterVerdict (lineRefusal (run first cs) (drop (9 * length cs) text)) (length cs))) all
-      ∙ ap (λ (t : LockState). followedAs first (i .calls) (laterVerdict (lineRefusal t (drop (9 * length (i .calls)) text)) (length (i .calls)))) (sym (i .state-is))
-      ∙ ap (λ (l : List ℕ). followedAs first (i .calls) (laterVerdict (lineRefusal s l) (length (i .calls)))) (sym (i .left))
-      ∙ ap (λ (k : ℕ). followedAs first (i .calls) (laterVerdict (lineRefusal s rest) k)) (sym (i .count))
+      let all : laterHeard first text ≡ i .calls =
+      i .heard ∙ ap (λ (cs : List Call). i .calls ++ cs) none ∙ append-nil (i .calls) in
+      let over : List Call → LockState → List ℕ → ℕ → Followed =
+      λ cs t left k. followedAs first cs (laterVerdict (lineRefusal t left) k) in
+      ap (λ (cs : List Call). over cs (run first cs) (drop (9 * length cs) text) (length cs)) all
+      ∙ ap (λ (t : LockState). over (i .calls) t (drop (9 * length (i .calls)) text) (length (i .calls))) (sym (i .state-is))
+      ∙ ap (λ (l : List ℕ). over (i .calls) s l (length (i .calls))) (sym (i .left))
+      ∙ ap (over (i .calls) s rest) (sym (i .count))
 
   pub ends : length rest ≤ 0 → record { refusal = 0; line = 0; n = first .n; accounts = accounts } ≡ followedOf first text
   ends none =
@@ -123,7 +127,9 @@ module _ (text : List ℕ) (first : LockState) (rest : List ℕ) (s : LockState)
       happened = ap (λ (x : Answer). eqb (x .refusal) 0) (sym answers) ∙ taken
 
       pub low : p < processors
-      low = subst (λ (k : ℕ). p < k) (i .sound .rooms) (row-room s (i .sound .fit) (i .sound .rooms) (taken-below s event p (i .sound .fit) happened))
+      low =
+          subst (λ (k : ℕ). p < k) (i .sound .rooms)
+          (row-room s (i .sound .fit) (i .sound .rooms) (taken-below s event p (i .sound .fit) happened))
 
       pub fit : AllFit accounts
       fit = subst AllFit (sym (i .accounts-are)) (accounts-fit first (i .calls) (omega (arith, i .count, i .fewer)))

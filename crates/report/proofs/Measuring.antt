@@ -37,12 +37,15 @@ added-same : (table : List (List ℕ)) (f g : Counts) → ((a b : ℕ) → a < p
     → countsAdded table f ≡ countsAdded table g
 unfolding countsAdded holds raised
 added-same table f g h =
-    let tests =
-    every-same processors _ _ (λ a la. every-same processors _ _ (λ b lb. ap (λ (k : ℕ). leb (cell table a b + k) greatest) (h a b la lb))) in
-    let sums =
-    upto-same _ _ processors (λ a la. upto-same _ _ processors (λ b lb. ap (λ (k : ℕ). cell table a b + k) (h a b la lb))) in
-    ap (λ (t : Bool). cond t (record { refusal = 0; line = 0; table = raised table f }) (record { refusal = 12; line = 0; table = table })) tests
-    ∙ ap (λ (t : List (List ℕ)). cond (holds table g) (record { refusal = 0; line = 0; table = t }) (record { refusal = 12; line = 0; table = table })) sums
+    let tests : holds table f ≡ holds table g =
+    every-same processors _ _ (λ a la. every-same processors _ _ (λ b lb.
+    ap (λ (k : ℕ). leb (cell table a b + k) greatest) (h a b la lb))) in
+    let sums : raised table f ≡ raised table g =
+    upto-same _ _ processors (λ a la. upto-same _ _ processors (λ b lb.
+    ap (λ (k : ℕ). cell table a b + k) (h a b la lb))) in
+    let told : Bool → List (List ℕ) → Reported =
+    λ fits sum. cond fits (record { refusal = 0; line = 0; table = sum }) (record { refusal = 12; line = 0; table = table }) in
+    ap (λ (b : Bool). told b (raised table f)) tests ∙ ap (told (holds table g)) sums
 
 module _ (s : LockState) (calls : List Call) where
   account-at : (b : ℕ) → b < processors → getD (accountsOf s calls) b absent ≡ accountOf s calls b
@@ -115,7 +118,8 @@ module _ (text : List ℕ) (table : List (List ℕ)) (lent : ℕ) (f : Followed)
         let not-enough : ltb lent (processorsOf text) ≡ true = ap (ltb lent) (sym (found .n zero-told)) ∙ short in
         refused-so m told is (e ∙ simp (zero-told, not-enough)) (ap (λ (x : Reported). eqb (x .refusal) 0) e)
 
-    module _ (enough : ltb lent (f .n) ≡ false) (told : Reported) (e : told ≡ countsAdded table (cell (chargesBy (f .accounts)))) where
+    module _ (enough : ltb lent (f .n) ≡ false) (told : Reported)
+        (e : told ≡ countsAdded table (cell (chargesBy (f .accounts)))) where
       told-is : told ≡ reportedOf text table lent
       unfolding reportedOf
       told-is =
@@ -132,7 +136,8 @@ module _ (text : List ℕ) (table : List (List ℕ)) (lent : ℕ) (f : Followed)
           → Ends (record { told = told; count = f .n; rows = rows })
       unfolding measuredOf
       counted all rows is =
-          let within : f .n ≤ processors = subst (λ (k : ℕ). k ≤ processors) (sym (found .n zero-told)) (processors-within text zero-told) in (
+          let within : f .n ≤ processors =
+          subst (λ (k : ℕ). k ≤ processors) (sym (found .n zero-told)) (processors-within text zero-told) in (
             ap (λ (k : ℕ). record { told = told; count = k; rows = rows }) (found .n zero-told)
                 ∙ ap (λ (x : List Tally). record { told = told; count = processorsOf text; rows = x })
                 (is ∙ ap talliesBy (found .accounts zero-told) ∙ tallies-are text)

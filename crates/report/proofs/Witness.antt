@@ -55,7 +55,8 @@ twice-drawn = record {
   before =
       steps 1 3 ++ steps 2 6 ++ steps 0 5 ++ steps 1 2 ++ steps 2 1 ++ raise 2 ∷ steps 2 1 ++ steps 1 2 ++ steps 0 2 ++ steps 1 1
       ++ steps 2 8 ++ steps 0 2 ++ steps 2 1 ++ raise 2 ∷ steps 2 1 ++ steps 0 3 ++ steps 1 1 ++ steps 2 7 ++ steps 1 1
-      ++ steps 2 2 ++ raise 2 ∷ steps 2 1 ++ steps 1 5 ++ steps 0 4 ++ steps 2 6 ++ steps 1 1 ++ steps 2 8 ++ steps 0 2 ++ steps 2 4;
+      ++ steps 2 2 ++ raise 2 ∷ steps 2 1 ++ steps 1 5 ++ steps 0 4 ++ steps 2 6 ++ steps 1 1 ++ steps 2 8 ++ steps 0 2
+      ++ steps 2 4;
   entry = step 0;
   entered = refl;
   charged = refl;
@@ -89,11 +90,14 @@ abbrev schedule : List Call → Given
 schedule calls = record { text = lineOf (1 ∷ 0 ∷ 2 ∷ []) ++ lines calls; lent = 2 }
 
 -- 1 makes 0 wait once in the one, twice in the other
+abbrev round : List Call
+round = steps 1 5 ++ steps 0 11 ++ steps 1 4 ++ steps 0 1
+
 abbrev one : Given
-one = schedule (steps 0 3 ++ steps 1 5 ++ steps 0 11 ++ steps 1 4 ++ steps 0 1)
+one = schedule (steps 0 3 ++ round)
 
 abbrev two : Given
-two = schedule (steps 0 3 ++ steps 1 5 ++ steps 0 11 ++ steps 1 4 ++ steps 0 1 ++ steps 1 5 ++ steps 0 11 ++ steps 1 4 ++ steps 0 1)
+two = schedule (steps 0 3 ++ round ++ round)
 
 -- the count of 1 and 0 may rise by 2, and no other is near the greatest
 abbrev nearlyFull : List (List ℕ)

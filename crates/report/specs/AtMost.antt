@@ -1,5 +1,5 @@
--- What the production desk sees of demand 3: in the plain and guarded editions a join that led to an entry charges each processor at
--- most once, whatever interrupts were taken; and nobody is charged for its own entries, in any edition.
+-- What the production desk sees of demand 3: in the plain and guarded editions a join that led to an entry charges each processor
+-- at most once, whatever interrupts were taken; and nobody is charged for its own entries, in any edition.
 use Prim.Native.Nat.{ℕ, _≤_}
 use mathlib.Core.Path.{_≡_}
 use mathlib.Core.Bool.{true}

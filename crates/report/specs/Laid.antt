@@ -1,5 +1,5 @@
--- The lent rows after a report, row by row: "to be filled with this schedule's entries, interrupts taken and joins", "Lent rows from
--- N on stay as they were", "a refused schedule .. changes no lent row" (which is in Order).
+-- The lent rows after a report, row by row: "to be filled with this schedule's entries, interrupts taken and joins", "Lent rows
+-- from N on stay as they were". ("A refused schedule .. changes no lent row" is in Order.)
 use Prim.Native.Nat.{ℕ, _≤_, _<_}
 use mathlib.Core.Path.{_≡_}
 use mathlib.Core.List.{List}

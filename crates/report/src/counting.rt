@@ -7,7 +7,8 @@ ghost use mathlib.Core.Bool.{cond};
 ghost use Prim.Native.Nat.{suc, _<_};
 ghost use lib.ListN.{getD};
 ghost use Rattle.report.specs.Table.{greatest};
-ghost use Rattle.report.specs.Accounts.{noAccount, didBy, tallied, raisedAt, pendingThen, chargedThen, seenBy, notedBy, chargesBy, chargesRow, talliesBy, TallyFits, Summable, Fits, AllFit};
+ghost use Rattle.report.specs.Accounts.{noAccount, didBy, tallied, raisedAt, pendingThen, chargedThen, seenBy, notedBy};
+ghost use Rattle.report.specs.Accounts.{chargesBy, chargesRow, talliesBy, TallyFits, Summable, Fits, AllFit};
 
 // The event, and the places, by which a call is told.
 const STEP: u8 = 1;

@@ -1,5 +1,6 @@
-// Along a schedule: its own refusal with the line, or N and the accounts of its processors. The loop is the bench's, line by line;
-// both go by the definitions of bench's Bridge, and no function takes or hands on a state, since each would copy all its rows.
+// Along a schedule: its own refusal with the line, or N and the accounts of its processors. The loop goes from line to line as the
+// bench's does, and both by the definitions of bench's Bridge; no function takes or hands on a state, since each would copy all its
+// rows.
 use crate::counting;
 use crate::counting::Account;
 use frame::Line;

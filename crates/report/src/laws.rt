@@ -1,5 +1,5 @@
-// What is claimed of the report, as contracts: an empty function promises each, so that a check names it. The statements are those
-// of `specs/Order.antt`, `specs/Laid.antt`, `specs/AtMost.antt`, `specs/Sharp.antt` and `specs/Unique.antt`; nobody needs to call these.
+// What is claimed of the report, as contracts: an empty function promises each, so that a check names it. The statements are
+// those of `specs/`, `Order`, `Laid`, `AtMost`, `Sharp` and `Unique`; nobody needs to call these.
 ghost use Rattle.report.specs.Order.{AnyOrder, PartsAddUp, RefusedAddsNothing};
 ghost use Rattle.report.specs.Laid.{RowsAreLaid};
 ghost use Rattle.report.specs.AtMost.{ChargedOnce, DiagonalIsZero};

@@ -70,10 +70,12 @@ abbrev Asked : LockState → List ℕ → ℕ → ℕ → Type 0
 Asked s rest event p =
     (callOf rest ≡ record { event = event; processor = p }) × (lineRefusal s rest ≡ (happens s event p) .refusal)
 
-asked : (a : tie.After-carried Inv-loop μ-loop) → Asked (loop-of (read-of a) .loop .state) (loop-of (read-of a) .loop .rest .now) (event-of a) (processor-of a)
+asked : (a : tie.After-carried Inv-loop μ-loop) →
+    Asked (loop-of (read-of a) .loop .state) (loop-of (read-of a) .loop .rest .now) (event-of a) (processor-of a)
 asked a =
     let r = read-of a in
-    line-asks (loop-of r .loop .state) (loop-of r .loop .rest .now) (r .before .loop-test .taken) _ (event-of a) (processor-of a) _
+    let l = loop-of r .loop in
+    line-asks (l .state) (l .rest .now) (r .before .loop-test .taken) _ (event-of a) (processor-of a) _
     (sym (r .read .ensures) ∙ ap told (a .before .before .before .event .given .1))
 
 returns : tie.Need-returns Inv-loop μ-loop

@@ -20,8 +20,8 @@ returns-2 c =
     let start = c .before .before .before .before .before .before in
     let unread = unread-first (now (start .args .schedule)) (from .refusal .given .0 .0)
     (sym (from .before .before .read .ensures) ∙ ap told (from .refusal .given .1)) in
-    follows-refused (now (start .args .schedule)) (c .unheard .result) (start .pre) (from .refusal .given .0 .0) (unread .0) (unread .1)
-    (c .unheard .ensures)
+    follows-refused (now (start .args .schedule)) (c .unheard .result) (start .pre) (from .refusal .given .0 .0)
+    (unread .0) (unread .1) (c .unheard .ensures)
 
 pub open-spec : {M : Type 1} → statement M
 open-spec =
