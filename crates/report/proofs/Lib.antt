@@ -11,5 +11,6 @@ pub mod Orders
 pub mod Laying
 pub mod Witness
 pub mod Values
+pub mod Lent
 pub mod Adding
 pub mod Seam
