@@ -1,7 +1,8 @@
 -- The loop over the later lines, part way: the calls that are heard so far, and the accounts over them.
 --     begins          where the loop begins
---     place-low       an accepted call is of a processor that has an account, and there is room for it
---     changed, quiet  the accounts after the line's call
+--     Taken           a line whose event is accepted
+--     low, fit        then its processor has an account, and there is room in the accounts
+--     changed, quiet  the accounts after its call
 --     goes-on         an event that is accepted: the loop stands one line further
 --     stops, ends     a line that is refused, and the end of the text: all that is asked is known
 -- Assumes nothing.
@@ -116,77 +117,86 @@ module _ (text : List ℕ) (first : LockState) (rest : List ℕ) (s : LockState)
         ∙ ap (λ (r : ℕ). followedAs first (i .calls) (laterVerdict r accepted)) is
         ∙ simp e)
 
-    -- the line asks for this call, and it is accepted
-    module _ (within : length text ≤ longest) (event p : ℕ) (asks : callOf rest ≡ record { event = event; processor = p })
-        (is : lineRefusal s rest ≡ (happens s event p) .refusal) (a : Answer) (answers : a ≡ happens s event p)
-        (taken : eqb (a .refusal) 0 ≡ true) where
-      abbrev call : Call
-      call = record { event = event; processor = p }
+-- the line asks for an event of p, and a is the answer, by which it is accepted
+pub record Taken (text : List ℕ) (first : LockState) (rest : List ℕ) (s : LockState) (accounts : List Account) (accepted event p : ℕ)
+    (a : Answer) : Type 0 where
+  pub along : Along text first rest s accounts accepted
+  pub within : length text ≤ longest
+  pub some : 0 < length rest
+  pub asks : callOf rest ≡ record { event = event; processor = p }
+  pub refusal : lineRefusal s rest ≡ (happens s event p) .refusal
+  pub answers : a ≡ happens s event p
+  pub none : eqb (a .refusal) 0 ≡ true
 
-      happened : eqb ((happens s event p) .refusal) 0 ≡ true
-      happened = ap (λ (x : Answer). eqb (x .refusal) 0) (sym answers) ∙ taken
+module _ {text : List ℕ} {first : LockState} {rest : List ℕ} {s : LockState} {accounts : List Account} {accepted event p : ℕ}
+    {a : Answer} (line : Taken text first rest s accounts accepted event p a) where
+  abbrev i : Along text first rest s accounts accepted
+  i = line .along
 
-      pub low : p < processors
-      low =
-          subst (λ (k : ℕ). p < k) (i .sound .rooms)
-          (row-room s (i .sound .fit) (i .sound .rooms) (taken-below s event p (i .sound .fit) happened))
+  abbrev call : Call
+  call = record { event = event; processor = p }
 
-      pub fit : AllFit accounts
-      fit = subst AllFit (sym (i .accounts-are)) (accounts-fit first (i .calls) (omega (arith, i .count, i .fewer)))
+  happened : eqb ((happens s event p) .refusal) 0 ≡ true
+  happened = ap (λ (x : Answer). eqb (x .refusal) 0) (sym (line .answers)) ∙ line .none
 
-      -- the same in the words of the run so far
-      run-taken : eqb ((happens (run first (i .calls)) event p) .refusal) 0 ≡ true
-      run-taken = subst (λ (t : LockState). eqb ((happens t event p) .refusal) 0 ≡ true) (i .state-is) happened
+  pub low : p < processors
+  low =
+      subst (λ (k : ℕ). p < k) (i .sound .rooms)
+      (row-room s (i .sound .fit) (i .sound .rooms) (taken-below s event p (i .sound .fit) happened))
 
-      state-after : a .state ≡ after (run first (i .calls)) call
-      unfolding after
-      state-after =
-          ap (λ (x : Answer). x .state) answers ∙ ap (λ (t : LockState). (happens t event p) .state) (i .state-is)
+  pub fit : AllFit accounts
+  fit = subst AllFit (sym (i .accounts-are)) (accounts-fit first (i .calls) (omega (arith, i .count, i .fewer, line .within, line .some)))
 
-      -- what the call was, by the places that the code has seen
-      module _ (d : Did) (e : d ≡ didBy event ((row s p) .place) ((row (a .state) p) .place)) where
-        told : d ≡ did (run first (i .calls)) call run-taken
-        told =
-            e ∙ ap (λ (t : LockState). didBy event ((row t p) .place) ((row (a .state) p) .place)) (i .state-is)
-            ∙ ap (λ (t : LockState). didBy event ((row (run first (i .calls)) p) .place) ((row t p) .place)) state-after
+  -- the same in the words of the run so far
+  run-taken : eqb ((happens (run first (i .calls)) event p) .refusal) 0 ≡ true
+  run-taken = subst (λ (t : LockState). eqb ((happens t event p) .refusal) 0 ≡ true) (i .state-is) happened
 
-        pub changed : (then : List Account) → then ≡ notedBy accounts p d → then ≡ accountsOf first (i .calls ++ call ∷ [])
-        changed then f =
-            f ∙ ap (λ (x : List Account). notedBy x p d) (i .accounts-are)
-            ∙ ap (notedBy (accountsOf first (i .calls)) p) told
-            ∙ sym (accounts-after first (i .calls) call run-taken low)
+  state-after : a .state ≡ after (run first (i .calls)) call
+  unfolding after
+  state-after =
+      ap (λ (x : Answer). x .state) (line .answers) ∙ ap (λ (t : LockState). (happens t event p) .state) (i .state-is)
 
-        pub quiet : Nothing d → accounts ≡ accountsOf first (i .calls ++ call ∷ [])
-        quiet none =
-            i .accounts-are
-            ∙ sym
-            (accounts-quiet first (i .calls) call run-taken low
-            (subst Nothing told none))
+  -- what the call was, by the places that the code has seen
+  module _ (d : Did) (e : d ≡ didBy event ((row s p) .place) ((row (a .state) p) .place)) where
+    told : d ≡ did (run first (i .calls)) call run-taken
+    told =
+        e ∙ ap (λ (t : LockState). didBy event ((row t p) .place) ((row (a .state) p) .place)) (i .state-is)
+        ∙ ap (λ (t : LockState). didBy event ((row (run first (i .calls)) p) .place) ((row t p) .place)) state-after
 
-      pub goes-on : (then : List Account) → then ≡ accountsOf first (i .calls ++ call ∷ []) → (later : List ℕ) →
-          later ≡ restOf rest → Along text first later (a .state) then (accepted + 1)
-      goes-on then f later h =
-          let size : length (i .calls ++ call ∷ []) ≡ length (i .calls) + 1 = length-append (i .calls) (call ∷ []) in
-          let nine : 9 * length (i .calls) + 9 ≡ 9 * length (i .calls ++ call ∷ []) = omega (arith, size) in
-          let after-is : after s (callOf rest) ≡ a .state =
-          ap (after s) asks ∙ ap (λ (t : LockState). after t call) (i .state-is) ∙ sym state-after in
-          rw h
-          (record {
-            calls = i .calls ++ call ∷ [];
-            count = omega (arith, i .count, size);
-            state-is = state-after ∙ sym (run-last first (i .calls) call);
-            heard =
-                i .heard
-                ∙ ap (λ (cs : List Call). i .calls ++ cs)
-                (heard-on s rest some (ap (λ (r : ℕ). eqb r 0) is ∙ happened)
-                ∙ ap (λ (t : LockState). callOf rest ∷ laterHeard t (restOf rest)) after-is
-                ∙ ap (λ (c : Call). c ∷ laterHeard (a .state) (restOf rest)) asks)
-                ∙ sym (append-assoc (i .calls) (call ∷ []) (laterHeard (a .state) (restOf rest)));
-            left =
-                ap restOf (i .left)
-                ∙ drop-drop 9 (9 * length (i .calls)) text
-                ∙ ap (λ (k : ℕ). drop k text) nine;
-            accounts-are = f;
-            fewer = omega (arith, i .fewer, length-drop 9 rest);
-            sound = happens-whole (i .sound) event p a answers;
-          })
+    pub changed : (then : List Account) → then ≡ notedBy accounts p d → then ≡ accountsOf first (i .calls ++ call ∷ [])
+    changed then f =
+        f ∙ ap (λ (x : List Account). notedBy x p d) (i .accounts-are)
+        ∙ ap (notedBy (accountsOf first (i .calls)) p) told
+        ∙ sym (accounts-after first (i .calls) call run-taken low)
+
+    pub quiet : Nothing d → accounts ≡ accountsOf first (i .calls ++ call ∷ [])
+    quiet none =
+        i .accounts-are ∙ sym (accounts-quiet first (i .calls) call run-taken low (subst Nothing told none))
+
+  pub goes-on : (then : List Account) → then ≡ accountsOf first (i .calls ++ call ∷ []) → (later : List ℕ) →
+      later ≡ restOf rest → Along text first later (a .state) then (accepted + 1)
+  goes-on then f later h =
+      let size : length (i .calls ++ call ∷ []) ≡ length (i .calls) + 1 = length-append (i .calls) (call ∷ []) in
+      let nine : 9 * length (i .calls) + 9 ≡ 9 * length (i .calls ++ call ∷ []) = omega (arith, size) in
+      let after-is : after s (callOf rest) ≡ a .state =
+      ap (after s) (line .asks) ∙ ap (λ (t : LockState). after t call) (i .state-is) ∙ sym state-after in
+      rw h
+      (record {
+        calls = i .calls ++ call ∷ [];
+        count = omega (arith, i .count, size);
+        state-is = state-after ∙ sym (run-last first (i .calls) call);
+        heard =
+            i .heard
+            ∙ ap (λ (cs : List Call). i .calls ++ cs)
+            (heard-on s rest (line .some) (ap (λ (r : ℕ). eqb r 0) (line .refusal) ∙ happened)
+            ∙ ap (λ (t : LockState). callOf rest ∷ laterHeard t (restOf rest)) after-is
+            ∙ ap (λ (c : Call). c ∷ laterHeard (a .state) (restOf rest)) (line .asks))
+            ∙ sym (append-assoc (i .calls) (call ∷ []) (laterHeard (a .state) (restOf rest)));
+        left =
+            ap restOf (i .left)
+            ∙ drop-drop 9 (9 * length (i .calls)) text
+            ∙ ap (λ (k : ℕ). drop k text) nine;
+        accounts-are = f;
+        fewer = omega (arith, i .fewer, length-drop 9 rest, line .some);
+        sound = happens-whole (i .sound) event p a (line .answers);
+      })

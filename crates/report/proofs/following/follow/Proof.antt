@@ -1,30 +1,25 @@
 -- `report::following::follow` meets its contract. The loop's invariant is `Along`: the calls heard so far, and the accounts over
 -- them. The measure is the length of the text that is left. Assumes nothing.
-use Prim.Native.Nat.{ℕ, _+_, _<_}
+use Prim.Native.Nat.{ℕ}
 use native.Mathlib.Omega.{arith}
 use mathlib.Core.Path.{_≡_, sym, ap, _∙_}
 use mathlib.Core.Logic.{⊎-elim}
-use mathlib.Core.Bool.{true}
-use mathlib.Core.List.{List, [], _∷_, _++_}
+use mathlib.Core.List.{List}
 use denote.Ref.{now}
 use lib.ListN.{length, length-drop}
-use lib.Dec.{eqb}
 use borrow.Author.Needs.{needs}
 use borrow.Author.Tests.{eq-eqb, ne-eqb}
 use Rattle.lock.specs.declared.Row.{Row}
 use Rattle.lock.specs.declared.LockState.{LockState}
 use Rattle.lock.specs.declared.Answer.{Answer}
-use Rattle.lock.specs.State.{processors, row}
+use Rattle.lock.specs.State.{row}
 use Rattle.lock.specs.Event.{happens}
-use Rattle.lock.specs.Run.{Call}
 use Rattle.bench.specs.Bridge.{callOf, lineRefusal}
-use Rattle.frame.specs.Reading.{told, restOf}
+use Rattle.frame.specs.Reading.{told}
 use Rattle.bench.proofs.Sound.{carried-is}
 use Rattle.bench.proofs.Heard.{line-asks, line-unread}
-use Rattle.report.specs.declared.counting.Account.{Account}
-use Rattle.report.specs.Accounts.{accountsOf, didBy, notedBy, AllFit}
-use Rattle.report.proofs.Accounting.{Nothing}
-use Rattle.report.proofs.Going.{Along, begins, stops, ends, low, fit, changed, quiet, goes-on}
+use Rattle.report.specs.Accounts.{didBy}
+use Rattle.report.proofs.Going.{Along, begins, stops, ends, Taken, low, fit, changed, quiet, goes-on}
 use Rattle.report.proofs.following.follow.Statement.{statement}
 use Rattle.report.proofs.following.follow.Tie as tie
 
@@ -105,57 +100,33 @@ module _ (d : tie.After-told-apart Inv-loop μ-loop) where
   abbrev start : tie.Start Inv-loop μ-loop
   start = start-of at
 
-  abbrev text : List ℕ
-  text = now (start .args .text)
+  line : Taken (now (start .args .text)) (start .args .first) (at .loop .rest .now) (at .loop .state) (at .loop .accounts)
+      (at .loop .accepted) (event-of a) (processor-of a) (a .carried .result)
+  line = record {
+    along = at .loop .inv;
+    within = start .pre .1;
+    some = r .before .loop-test .taken;
+    asks = asked a .0;
+    refusal = asked a .1;
+    answers = answer-is a;
+    none = eq-eqb _ 0 (taken .if1 .left);
+  }
 
-  accepted : eqb (a .carried .result .refusal) 0 ≡ true
-  accepted = eq-eqb _ 0 (taken .if1 .left)
+  -- the places of its processor before and after it
+  abbrev was : ℕ
+  was = (row (at .loop .state) (processor-of a)) .place
 
-  there : processor-of a < processors
-  there =
-      low text (start .args .first) (at .loop .rest .now) (at .loop .state) (at .loop .accounts) (at .loop .accepted) (at .loop .inv)
-      (r .before .loop-test .taken) (start .pre .1) (event-of a) (processor-of a) (asked a .0) (asked a .1) (a .carried .result)
-      (answer-is a) accepted
+  abbrev is : ℕ
+  is = (row (a .carried .result .state) (processor-of a)) .place
 
-  room : AllFit (at .loop .accounts)
-  room =
-      fit text (start .args .first) (at .loop .rest .now) (at .loop .state) (at .loop .accounts) (at .loop .accepted) (at .loop .inv)
-      (r .before .loop-test .taken) (start .pre .1) (event-of a) (processor-of a) (asked a .0) (asked a .1) (a .carried .result)
-      (answer-is a) accepted
-
-  did-is : d .told-apart .result ≡ didBy (event-of a) ((row (at .loop .state) (processor-of a)) .place) ((row (a .carried .result .state) (processor-of a)) .place)
+  did-is : d .told-apart .result ≡ didBy (event-of a) was is
   did-is =
       d .told-apart .ensures
       ∙ ap (λ (x : Row). didBy (event-of a) (x .place) (d .before .row2 .result .place)) (a .before .row .ensures)
-      ∙ ap (λ (x : Row). didBy (event-of a) ((row (at .loop .state) (processor-of a)) .place) (x .place)) (d .before .row2 .ensures)
-
-  abbrev call : Call
-  call = record { event = event-of a; processor = processor-of a }
-
-  abbrev Next : List Account → Type 0
-  Next then = then ≡ accountsOf (start .args .first) (at .loop .inv .calls ++ call ∷ [])
-
-  noted-now : (then : List Account) → then ≡ notedBy (at .loop .accounts) (processor-of a) (d .told-apart .result) → Next then
-  noted-now then e =
-      changed text (start .args .first) (at .loop .rest .now) (at .loop .state) (at .loop .accounts) (at .loop .accepted)
-      (at .loop .inv) (r .before .loop-test .taken) (start .pre .1) (event-of a) (processor-of a) (asked a .0) (asked a .1)
-      (a .carried .result) (answer-is a) accepted (d .told-apart .result) did-is then e
-
-  nothing-now : Nothing (d .told-apart .result) → Next (at .loop .accounts)
-  nothing-now none =
-      quiet text (start .args .first) (at .loop .rest .now) (at .loop .state) (at .loop .accounts) (at .loop .accepted)
-      (at .loop .inv) (r .before .loop-test .taken) (start .pre .1) (event-of a) (processor-of a) (asked a .0) (asked a .1)
-      (a .carried .result) (answer-is a) accepted (d .told-apart .result) did-is none
-
-  next-along : (then : List Account) → Next then → (later : List ℕ) → later ≡ restOf (at .loop .rest .now) →
-      Along text (start .args .first) later (a .carried .result .state) then (at .loop .accepted + 1)
-  next-along then e later f =
-      goes-on text (start .args .first) (at .loop .rest .now) (at .loop .state) (at .loop .accounts) (at .loop .accepted)
-      (at .loop .inv) (r .before .loop-test .taken) (start .pre .1) (event-of a) (processor-of a) (asked a .0) (asked a .1)
-      (a .carried .result) (answer-is a) accepted then e later f
+      ∙ ap (λ (x : Row). didBy (event-of a) was (x .place)) (d .before .row2 .ensures)
 
 noted-requires : tie.Need-noted-requires Inv-loop μ-loop
-noted-requires c κs = let d = c .before .before .before in (there d, room d)
+noted-requires c κs = let d = c .before .before .before in (low (line d), fit (line d))
 
 add-accepted : tie.Need-add-accepted Inv-loop μ-loop
 add-accepted c =
@@ -171,8 +142,10 @@ loop-again : tie.Need-loop-again Inv-loop μ-loop
 loop-again c =
     let join = c .before in
     let d = join .before .before .before in
-    next-along d (join .if2 .accounts)
-    (⊎-elim (λ w. noted-now d (join .if2 .accounts) (w .2 ∙ w .1 .ensures)) (λ w. w .1 ∙ nothing-now d (w .0 .left)) (join .if2 .came))
+    let told = d .told-apart .result in
+    goes-on (line d) (join .if2 .accounts)
+    (⊎-elim (λ w. changed (line d) told (did-is d) (join .if2 .accounts) (w .2 ∙ w .1 .ensures))
+    (λ w. w .1 ∙ quiet (line d) told (did-is d) (w .0 .left)) (join .if2 .came))
     (c .rest .result .now) (c .rest .ensures)
 
 returns-2 : tie.Need-returns-2 Inv-loop μ-loop
