@@ -8,4 +8,6 @@ only-one-answer-fits =
       to-room = λ bytes r s p q. p ∙ sym q;
       to-log = λ text out r s after kept p f q g. (p ∙ sym q, f ∙ sym g);
       to-line = λ line out r s after kept p f q g. (p ∙ sym q, f ∙ sym g);
+      to-report = λ text table rows told same after kept p f q g. (p ∙ sym q, f ∙ sym g);
+      to-add = λ table other r s after kept p f q g. (p ∙ sym q, f ∙ sym g);
     }

@@ -1,17 +1,23 @@
-// What C and Rust programs call: a schedule's log, the room that it needs, and a line of a schedule.
+// What C and Rust programs call: a schedule's log, the room that it needs, a line of a schedule, and the report of who made whom
+// wait.
 //
-// Each function is one definition of bench or frame, told as one number: how many bytes are written, and 0 where the
-// lent buffer has not the room. They ask nothing of their caller but that a slice is what it says.
+// Each function is one definition of bench, frame or report, told as one number: how many bytes are written, and 0 where the
+// lent buffer has not the room; of a report its refusal. They ask nothing of their caller but that a slice is what it says.
 pub mod laws;
+mod rows;
 mod told;
 
 ghost use mathlib.Core.Path.{_≡_};
 ghost use mathlib.Core.List.{[], _∷_};
+ghost use Prim.Native.Nat.{_/_};
 ghost use lib.ListN.{length};
 ghost use lib.Dec.{eqb, ltb};
 ghost use Rattle.frame.specs.Writing.{lineOf, leaves};
 ghost use Rattle.bench.specs.Lent.{roomFor, logged, left};
+ghost use Rattle.report.specs.Table.{addedTo};
+ghost use Rattle.report.specs.Report.{reportedOf};
 ghost use Rattle.board.specs.Written.{written};
+ghost use Rattle.board.specs.Numbers.{numbersAfter};
 
 // A line of four pairs has 9 bytes.
 const LINE: usize = 9;
@@ -46,4 +52,47 @@ pub extern "C" fn pontivesca_line(kind: u8, first: u8, second: u8, out: &mut [u8
     let refusal = frame::write_frame(out, kind, first, second);
     let whole = refusal == 0;
     if whole { LINE } else { 0 }
+}
+
+// Who made whom wait in a schedule: its refusal, 0 for none, and the refusal's line. Where nothing is refused the schedule's counts
+// are added to the table, and its tallies are laid into the lent numbers, three for each row; else both stay as they were.
+#[no_mangle]
+pub extern "C" fn pontivesca_report(
+    schedule: &[u8],
+    table: &mut [[u32; 16]; 16],
+    rows: &mut [u32],
+    line: &mut usize,
+) -> u8
+    ensures { λ r. ⌜ r
+        ≡ reportedOf (now (schedule .entry)) (now (table .entry)) (length (now (rows .entry)) / 3) .refusal ⌝ }
+    ensures { λ _. ⌜ now (line .exit)
+        ≡ reportedOf (now (schedule .entry)) (now (table .entry)) (length (now (rows .entry)) / 3) .line ⌝ }
+    ensures { λ _. ⌜ now (table .exit)
+        ≡ reportedOf (now (schedule .entry)) (now (table .entry)) (length (now (rows .entry)) / 3) .table ⌝ }
+    ensures { λ _. ⌜ now (rows .exit)
+        ≡ numbersAfter (now (schedule .entry)) (now (table .entry)) (now (rows .entry)) ⌝ }
+{
+    let given = *table;
+    let measured = report::by_value(schedule, given, rows.len() / 3);
+    let tallies = measured.tallies();
+    rows::lay(rows, tallies, measured.count);
+    let told = measured.told;
+    let sum = told.table_of();
+    *table = sum;
+    *line = told.line;
+    told.refusal
+}
+
+// A table of another part added to this one: 0. 12, and the table as it was, where a count would pass 4,294,967,295.
+#[no_mangle]
+pub extern "C" fn pontivesca_add(table: &mut [[u32; 16]; 16], other: &[[u32; 16]; 16]) -> u8
+    ensures { λ r. ⌜ r ≡ addedTo (now (table .entry)) (now (other .entry)) .refusal ⌝ }
+    ensures { λ _. ⌜ now (table .exit) ≡ addedTo (now (table .entry)) (now (other .entry)) .table ⌝ }
+{
+    let given = *table;
+    let more = *other;
+    let told = report::added(given, more);
+    let sum = told.table_of();
+    *table = sum;
+    told.refusal
 }

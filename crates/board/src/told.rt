@@ -3,11 +3,15 @@
 // of its contract alone.)
 ghost use mathlib.Core.Path.{_≡_};
 ghost use mathlib.Core.List.{[], _∷_};
+ghost use Prim.Native.Nat.{_/_};
 ghost use lib.ListN.{length};
 ghost use lib.Dec.{eqb, ltb};
 ghost use Rattle.frame.specs.Writing.{lineOf, leaves};
 ghost use Rattle.bench.specs.Lent.{roomFor, logged, left};
+ghost use Rattle.report.specs.Table.{addedTo};
+ghost use Rattle.report.specs.Report.{reportedOf};
 ghost use Rattle.board.specs.Written.{written};
+ghost use Rattle.board.specs.Numbers.{numbersAfter};
 
 fn told_room(bytes: usize) -> usize
     ensures { λ r. ⌜ r ≡ roomFor bytes ⌝ }
@@ -28,4 +32,29 @@ fn told_line(kind: u8, first: u8, second: u8, out: &mut [u8]) -> usize
     ensures { λ _. ⌜ now (out .exit) ≡ leaves (lineOf (kind ∷ first ∷ second ∷ [])) (now (out .entry)) ⌝ }
 {
     crate::pontivesca_line(kind, first, second, out)
+}
+
+fn told_report(
+    schedule: &[u8],
+    table: &mut [[u32; 16]; 16],
+    rows: &mut [u32],
+    line: &mut usize,
+) -> u8
+    ensures { λ r. ⌜ r
+        ≡ reportedOf (now (schedule .entry)) (now (table .entry)) (length (now (rows .entry)) / 3) .refusal ⌝ }
+    ensures { λ _. ⌜ now (line .exit)
+        ≡ reportedOf (now (schedule .entry)) (now (table .entry)) (length (now (rows .entry)) / 3) .line ⌝ }
+    ensures { λ _. ⌜ now (table .exit)
+        ≡ reportedOf (now (schedule .entry)) (now (table .entry)) (length (now (rows .entry)) / 3) .table ⌝ }
+    ensures { λ _. ⌜ now (rows .exit)
+        ≡ numbersAfter (now (schedule .entry)) (now (table .entry)) (now (rows .entry)) ⌝ }
+{
+    crate::pontivesca_report(schedule, table, rows, line)
+}
+
+fn told_add(table: &mut [[u32; 16]; 16], other: &[[u32; 16]; 16]) -> u8
+    ensures { λ r. ⌜ r ≡ addedTo (now (table .entry)) (now (other .entry)) .refusal ⌝ }
+    ensures { λ _. ⌜ now (table .exit) ≡ addedTo (now (table .entry)) (now (other .entry)) .table ⌝ }
+{
+    crate::pontivesca_add(table, other)
 }
