@@ -1,6 +1,7 @@
 -- Tallies laid down as numbers, three for each.
 --     numbers-length    how many numbers there are
 --     numbers-append    of two lists of tallies, one after the other
+--     put-row           a tally's three stores, behind what is laid down so far
 --     row-goes-on       one tally more is laid down; the numbers after it are as they were
 --     told-is           what is answered beside the tallies is the report
 --     numbers-are       the lent numbers, once the tallies of a report are laid down
@@ -16,7 +17,6 @@ use lib.Dec.{eqb}
 use Rattle.choice.proofs.Tests.{by-either}
 use Rattle.frame.proofs.Buffers.{put-next}
 use Rattle.report.specs.declared.Tally.{Tally}
-use Rattle.report.specs.declared.Reported.{Reported}
 use Rattle.report.specs.declared.Measured.{Measured}
 use Rattle.report.specs.Report.{noTally, reportedOf, measuredOf}
 use Rattle.board.specs.Numbers.{numbersOf, numbersAfter}
