@@ -1,9 +1,11 @@
 -- What specs/AtMost claims, from the lock's claims on a last join.
---     charged-once         from the join that led to an entry up to it, every processor enters at most once
---     diagonal-is-zero     who enters stays in the queue from its latest join on, so it makes no entry there; and where there
---                          is no queue there are no joins
+--     charged-once            from the join that led to an entry up to it, every processor enters at most once
+--     no-more-than-entries    so all entries of b together charge a pair at most once each
+--     diagonal-is-zero        who enters stays in the queue from its latest join on, so it makes no entry there; and where there
+--                             is no queue there are no joins
 -- Assumes nothing.
-use Prim.Native.Nat.{ℕ, zero, suc, _≤_, zero-le}
+use Prim.Native.Nat.{ℕ, zero, suc, _+_, _*_, _≤_, zero-le}
+use native.Mathlib.Nat.{mul-suc, le-of-eq}
 use native.Mathlib.Omega.{arith}
 use mathlib.Core.Path.{_≡_, refl, sym, ap, _∙_, subst}
 use mathlib.Core.Bool.{Bool, true, false, cond, not}
@@ -15,18 +17,18 @@ use borrow.Author.Tests.{eqb-true}
 use Rattle.choice.proofs.Tests.{clash, by-test}
 use Rattle.lock.specs.declared.LockState.{LockState}
 use Rattle.lock.specs.State.{old, isOld, freshState}
-use Rattle.lock.specs.Run.{Call, run, joins, enters}
-use Rattle.lock.specs.Count.{joinsIn, entriesIn, latestJoin}
+use Rattle.lock.specs.Run.{Call, after, run, joins, enters}
+use Rattle.lock.specs.Count.{countIn, joinsIn, entriesIn, latestJoin}
 use Rattle.lock.specs.Claims.{Ordered, reached, LastJoin}
 use Rattle.lock.proofs.Waiting.Counting.{latest-without-joins}
-use Rattle.lock.proofs.Waiting.Demand.{queue-reached}
+use Rattle.lock.proofs.Waiting.Demand.{run-last, queue-reached}
 use Rattle.lock.proofs.Waiting.Staying.{queued-to-entry}
 use Rattle.lock.proofs.Waiting.Standing.{queued-no-entry}
 use Rattle.lock.proofs.Roof.Claimed.{once-since-last-join}
 use Rattle.lock.proofs.Roof.Old.{old-has-no-joins}
-use Rattle.report.specs.Charges.{entriesAfter, charge, chargesFrom}
+use Rattle.report.specs.Charges.{entriesAfter, charge, chargesFrom, charges}
 use Rattle.report.specs.Accounts.{pendingIn, joinedIn}
-use Rattle.report.specs.AtMost.{ChargedOnce, DiagonalIsZero}
+use Rattle.report.specs.AtMost.{ChargedOnce, NoMoreThanEntries, DiagonalIsZero}
 use Rattle.report.proofs.Charging.{reaches, charge-at}
 use Rattle.report.proofs.Latest.{join-found, unjoined}
 
@@ -97,19 +99,42 @@ none-own e n before entry b false is entered =
     (unjoined (freshState e n) before entry b none)
     (subst (λ (t : LockState). enters t entry b ≡ true) (sym (reaches (freshState e n) before k)) entered)))
 
--- where every entry charges nothing, so do all
-none-charged :
-    (s : LockState) (a b : ℕ)
-    → ((before : List Call) (entry : Call) → enters (run s before) entry b ≡ true → charge s before entry a b ≡ 0)
-    → (before later : List Call) → chargesFrom s before later a b ≡ 0
-unfolding chargesFrom
-none-charged s a b each before [] = refl
-none-charged s a b each before (c ∷ later) =
-    let first : cond (enters (run s before) c b) (charge s before c a b) 0 ≡ 0 =
-    by-test (λ (k : ℕ). k ≡ 0) (enters (run s before) c b) (each before c) (λ h. refl) in
-    let more : chargesFrom s (before ++ c ∷ []) later a b ≡ 0 = none-charged s a b each (before ++ c ∷ []) later in
+-- ---- all entries together
+
+-- where each entry charges at most m, all together charge at most m for each
+all-at-most :
+    (s : LockState) (a b m : ℕ)
+    → ((before : List Call) (entry : Call) → enters (run s before) entry b ≡ true → charge s before entry a b ≤ m)
+    → (before later : List Call) → chargesFrom s before later a b ≤ m * entriesIn (run s before) later b
+unfolding chargesFrom entriesIn countIn
+all-at-most s a b m each before [] = zero-le
+all-at-most s a b m each before (c ∷ later) =
+    let k : ℕ = entriesIn (after (run s before) c) later b in
+    let more : chargesFrom s (before ++ c ∷ []) later a b ≤ m * k =
+    subst (λ (t : LockState). chargesFrom s (before ++ c ∷ []) later a b ≤ m * entriesIn t later b) (run-last s before c)
+    (all-at-most s a b m each (before ++ c ∷ []) later) in
+    let product : m * suc k ≡ m * k + m = mul-suc m k in
+    by (enters (run s before) c b) refl more product
+  where
+    by : (t : Bool) → enters (run s before) c b ≡ t
+        → chargesFrom s (before ++ c ∷ []) later a b ≤ m * entriesIn (after (run s before) c) later b
+        → m * suc (entriesIn (after (run s before) c) later b) ≡ m * entriesIn (after (run s before) c) later b + m
+        → cond t (charge s before c a b) 0 + chargesFrom s (before ++ c ∷ []) later a b
+        ≤ m * cond t (suc (entriesIn (after (run s before) c) later b)) (entriesIn (after (run s before) c) later b)
+    by true e more product = omega (arith, more, product, each before c e)
+    by false e more product = omega (arith, more)
+
+pub no-more-than-entries : NoMoreThanEntries
+unfolding run
+no-more-than-entries e n calls a b ordered =
+    let all : charges (freshState e n) calls a b ≤ 1 * entriesIn (freshState e n) calls b =
+    all-at-most (freshState e n) a b 1 (λ before entry. charged-once e n before entry a b ordered) [] calls in
     omega arith
 
 pub diagonal-is-zero : DiagonalIsZero
-diagonal-is-zero e n calls b range =
-    none-charged (freshState e n) b b (λ before entry. none-own e n before entry b (isOld e) refl) [] calls
+unfolding run
+diagonal-is-zero e n calls b =
+    let all : charges (freshState e n) calls b b ≤ 0 * entriesIn (freshState e n) calls b =
+    all-at-most (freshState e n) b b 0
+    (λ before entry h. le-of-eq (none-own e n before entry b (isOld e) refl h)) [] calls in
+    omega arith

@@ -6,15 +6,22 @@ use mathlib.Core.Bool.{true}
 use mathlib.Core.List.{List}
 use Rattle.lock.specs.State.{freshState}
 use Rattle.lock.specs.Run.{Call, enters}
-use Rattle.lock.specs.Claims.{Ordered, AnyEdition, reached}
+use Rattle.lock.specs.Count.{entriesIn}
+use Rattle.lock.specs.Claims.{Ordered, reached}
 use Rattle.report.specs.Charges.{charge, charges}
 
 abbrev pub ChargedOnce : Type 0
 ChargedOnce =
     (e n : ℕ) (before : List Call) (entry : Call) (a b : ℕ)
-    → Ordered e n
-    → enters (reached e n before) entry b ≡ true
+    → Ordered e n → enters (reached e n before) entry b ≡ true
     → charge (freshState e n) before entry a b ≤ 1
 
+-- so nobody made b wait more often than b entered
+abbrev pub NoMoreThanEntries : Type 0
+NoMoreThanEntries =
+    (e n : ℕ) (calls : List Call) (a b : ℕ)
+    → Ordered e n
+    → charges (freshState e n) calls a b ≤ entriesIn (freshState e n) calls b
+
 abbrev pub DiagonalIsZero : Type 0
-DiagonalIsZero = (e n : ℕ) (calls : List Call) (b : ℕ) → AnyEdition e n → charges (freshState e n) calls b b ≡ 0
+DiagonalIsZero = (e n : ℕ) (calls : List Call) (b : ℕ) → charges (freshState e n) calls b b ≡ 0

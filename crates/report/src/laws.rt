@@ -2,7 +2,7 @@
 // those of `specs/`, `Order`, `Laid`, `AtMost`, `Sharp` and `Unique`; nobody needs to call these.
 ghost use Rattle.report.specs.Order.{AnyOrder, PartsAddUp, RefusedAddsNothing};
 ghost use Rattle.report.specs.Laid.{RowsAreLaid};
-ghost use Rattle.report.specs.AtMost.{ChargedOnce, DiagonalIsZero};
+ghost use Rattle.report.specs.AtMost.{ChargedOnce, NoMoreThanEntries, DiagonalIsZero};
 ghost use Rattle.report.specs.Sharp.{ReportIsSharp};
 ghost use Rattle.report.specs.Unique.{OnlyOneAnswerFits};
 
@@ -29,6 +29,11 @@ pub fn rows_are_laid()
 // In the plain and guarded editions an entry charges each pair at most 1.
 pub fn charged_once()
     ensures { λ _. ⌜ ChargedOnce ⌝ }
+{}
+
+// So a pair counts at most as much as the one that waited entered.
+pub fn no_more_than_entries()
+    ensures { λ _. ⌜ NoMoreThanEntries ⌝ }
 {}
 
 // Nobody is charged for its own entries.
