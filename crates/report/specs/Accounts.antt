@@ -11,13 +11,13 @@ use Rattle.lock.specs.declared.LockState.{LockState}
 use Rattle.lock.specs.State.{processors}
 use Rattle.lock.specs.Event.{isStep}
 use Rattle.lock.specs.Run.{Call}
-use Rattle.lock.specs.Count.{entriesIn, interruptsIn, joinsIn, latestJoin}
+use Rattle.lock.specs.Count.{latestJoin}
 use Rattle.report.specs.declared.Tally.{Tally}
 use Rattle.report.specs.declared.counting.Did.{Did}
 use Rattle.report.specs.declared.counting.Account.{Account}
 use Rattle.report.specs.Charges.{entriesAfter, charges}
 use Rattle.report.specs.Table.{upto, greatest, rowHolds, rowSum}
-use Rattle.report.specs.Report.{noTally}
+use Rattle.report.specs.Report.{tallyIn, noTally}
 
 -- a's entries since b's latest join
 abbrev pub pendingIn : LockState → List Call → ℕ → ℕ → ℕ
@@ -26,13 +26,6 @@ pendingIn s calls a b = entriesAfter s calls (latestJoin s calls b) a
 -- b has joined
 abbrev pub joinedIn : LockState → List Call → ℕ → Bool
 joinedIn s calls b = not (eqb (latestJoin s calls b) 0)
-
-abbrev pub tallyIn : LockState → List Call → ℕ → Tally
-tallyIn s calls p = record {
-  entries = entriesIn s calls p;
-  interrupts = interruptsIn s calls p;
-  joins = joinsIn s calls p;
-}
 
 unfoldable pub accountOf : LockState → List Call → ℕ → Account
 accountOf s calls b = record {

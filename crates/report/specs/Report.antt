@@ -4,7 +4,9 @@ use mathlib.Core.Bool.{cond}
 use mathlib.Core.List.{List, _++_}
 use lib.ListN.{length, take, drop, replicate}
 use lib.Dec.{eqb, ltb}
+use Rattle.lock.specs.declared.LockState.{LockState}
 use Rattle.lock.specs.State.{processors}
+use Rattle.lock.specs.Run.{Call}
 use Rattle.lock.specs.Count.{entriesIn, interruptsIn, joinsIn}
 use Rattle.bench.specs.Bridge.{firstState, processorsOf, heardOf}
 use Rattle.bench.specs.Verdict.{verdictOf}
@@ -18,13 +20,16 @@ use Rattle.report.specs.Table.{upto, Counts, countsAdded}
 abbrev pub chargesOf : List ℕ → Counts
 chargesOf text a b = charges (firstState text) (heardOf text) a b
 
--- "this schedule's entries, interrupts taken and joins", of processor p
-unfoldable pub tallyOf : List ℕ → ℕ → Tally
-tallyOf text p = record {
-  entries = entriesIn (firstState text) (heardOf text) p;
-  interrupts = interruptsIn (firstState text) (heardOf text) p;
-  joins = joinsIn (firstState text) (heardOf text) p;
+-- "this schedule's entries, interrupts taken and joins", of processor p, in a run and in a schedule
+abbrev pub tallyIn : LockState → List Call → ℕ → Tally
+tallyIn s calls p = record {
+  entries = entriesIn s calls p;
+  interrupts = interruptsIn s calls p;
+  joins = joinsIn s calls p;
 }
+
+unfoldable pub tallyOf : List ℕ → ℕ → Tally
+tallyOf text p = tallyIn (firstState text) (heardOf text) p
 
 abbrev pub noTally : Tally
 noTally = record { entries = 0; interrupts = 0; joins = 0 }

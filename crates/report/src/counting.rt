@@ -13,7 +13,7 @@ ghost use Rattle.report.specs.Accounts.{chargesBy, chargesRow, talliesBy
 // The event, and the places, by which a call is told.
 const STEP: u8 = 1;
 
-const JOIN: u8 = 3;
+const SWAP: u8 = 3;
 
 const INSIDE: u8 = 9;
 
@@ -49,7 +49,7 @@ pub(crate) fn told_apart(event: u8, before: u8, after: u8) -> Did
     let taken = (before == POLL) & (after == SERVICE);
     let old_taken = (before == OLD_POLL) & (after == OLD_SERVICE);
     Did {
-        joined: step & (before == JOIN),
+        joined: step & (before == SWAP),
         entered: step & (after == INSIDE),
         interrupted: step & (taken | old_taken),
     }
