@@ -1,15 +1,13 @@
 -- Only one answer fits each function for C and Rust: two answers, and two buffers, that meet a contract are one.
-use Prim.Native.Nat.{ℕ, _/_}
+use Prim.Native.Nat.{ℕ}
 use mathlib.Core.Path.{_≡_}
 use mathlib.Core.List.{List}
-use lib.ListN.{length}
 use Rattle.frame.specs.Writing.{leaves}
 use Rattle.bench.specs.Lent.{roomFor, logged, left}
 use Rattle.report.specs.declared.Reported.{Reported}
 use Rattle.report.specs.Table.{addedTo}
-use Rattle.report.specs.Report.{reportedOf}
 use Rattle.board.specs.Written.{written}
-use Rattle.board.specs.Numbers.{numbersAfter}
+use Rattle.board.specs.Numbers.{toldWith, numbersAfter}
 
 pub record OnlyOneAnswerFits : Type 0 where
   pub to-room : (bytes r s : ℕ) → r ≡ roomFor bytes → s ≡ roomFor bytes → r ≡ s
@@ -21,8 +19,8 @@ pub record OnlyOneAnswerFits : Type 0 where
       (r ≡ s) × (after ≡ kept)
   -- the refusal, the line and the table of a report are taken together
   pub to-report : (text : List ℕ) (table : List (List ℕ)) (rows : List ℕ) (told same : Reported) (after kept : List ℕ) →
-      told ≡ reportedOf text table (length rows / 3) → after ≡ numbersAfter text table rows →
-      same ≡ reportedOf text table (length rows / 3) → kept ≡ numbersAfter text table rows →
+      told ≡ toldWith text table rows → after ≡ numbersAfter text table rows →
+      same ≡ toldWith text table rows → kept ≡ numbersAfter text table rows →
       (told ≡ same) × (after ≡ kept)
   pub to-add : (table other : List (List ℕ)) (r s : ℕ) (after kept : List (List ℕ)) →
       r ≡ addedTo table other .refusal → after ≡ addedTo table other .table →

@@ -3,15 +3,13 @@
 // of its contract alone.)
 ghost use mathlib.Core.Path.{_≡_};
 ghost use mathlib.Core.List.{[], _∷_};
-ghost use Prim.Native.Nat.{_/_};
 ghost use lib.ListN.{length};
 ghost use lib.Dec.{eqb, ltb};
 ghost use Rattle.frame.specs.Writing.{lineOf, leaves};
 ghost use Rattle.bench.specs.Lent.{roomFor, logged, left};
 ghost use Rattle.report.specs.Table.{addedTo};
-ghost use Rattle.report.specs.Report.{reportedOf};
 ghost use Rattle.board.specs.Written.{written};
-ghost use Rattle.board.specs.Numbers.{numbersAfter};
+ghost use Rattle.board.specs.Numbers.{toldWith, numbersAfter};
 
 fn told_room(bytes: usize) -> usize
     ensures { λ r. ⌜ r ≡ roomFor bytes ⌝ }
@@ -40,14 +38,10 @@ fn told_report(
     rows: &mut [u32],
     line: &mut usize,
 ) -> u8
-    ensures { λ r. ⌜ r
-        ≡ reportedOf (now (schedule .entry)) (now (table .entry)) (length (now (rows .entry)) / 3) .refusal ⌝ }
-    ensures { λ _. ⌜ now (line .exit)
-        ≡ reportedOf (now (schedule .entry)) (now (table .entry)) (length (now (rows .entry)) / 3) .line ⌝ }
-    ensures { λ _. ⌜ now (table .exit)
-        ≡ reportedOf (now (schedule .entry)) (now (table .entry)) (length (now (rows .entry)) / 3) .table ⌝ }
-    ensures { λ _. ⌜ now (rows .exit)
-        ≡ numbersAfter (now (schedule .entry)) (now (table .entry)) (now (rows .entry)) ⌝ }
+    ensures { λ r. ⌜ r ≡ toldWith (now (schedule .entry)) (now (table .entry)) (now (rows .entry)) .refusal ⌝ }
+    ensures { λ _. ⌜ now (line .exit) ≡ toldWith (now (schedule .entry)) (now (table .entry)) (now (rows .entry)) .line ⌝ }
+    ensures { λ _. ⌜ now (table .exit) ≡ toldWith (now (schedule .entry)) (now (table .entry)) (now (rows .entry)) .table ⌝ }
+    ensures { λ _. ⌜ now (rows .exit) ≡ numbersAfter (now (schedule .entry)) (now (table .entry)) (now (rows .entry)) ⌝ }
 {
     crate::pontivesca_report(schedule, table, rows, line)
 }
