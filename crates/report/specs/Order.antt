@@ -1,8 +1,8 @@
 -- Many schedules, one after the other: "a table .. carried from schedule to schedule and handed back", and "where no schedule is
 -- refused, adding them in another order gives the same table".
---     AnyOrder         any rearrangement, each schedule keeping its number of lent rows
---     PartsAddUp       the tables of two parts, each begun from nothing, added: the table of both
---     RefusedStays     a refused schedule leaves the table and the lent rows as they were
+--     AnyOrder              any rearrangement, each schedule keeping its number of lent rows
+--     PartsAddUp            the tables of two parts, each begun from nothing, added: the table of both
+--     RefusedAddsNothing    a refused schedule leaves the table and the lent rows as they were
 use Prim.Native.Nat.{ℕ}
 use mathlib.Core.Path.{_≡_}
 use mathlib.Core.Logic.{_≢_}
