@@ -10,6 +10,7 @@ pub mod claims;
 mod event;
 pub mod kept;
 pub mod laws;
+mod places;
 mod sound;
 mod table;
 mod told;

@@ -1,61 +1,13 @@
 // The soundness test, part by part as in specs/Sound.
 use crate::LockState;
 use crate::Row;
+use crate::places;
 ghost use mathlib.Core.Path.{_≡_};
 ghost use Rattle.lock.specs.Sound as Sound;
 ghost use mathlib.Core.Bool.{_&&_, cond};
 ghost use lib.Dec.{ltb};
 ghost use Rattle.choice.specs.Every.{every};
 ghost use Rattle.lock.specs.State.{processors};
-
-// The limits as an array's lengths.
-const EDITIONS: usize = LockState::EDITIONS as usize;
-
-const PLACES: usize = LockState::PLACES as usize;
-
-// Which places an edition has: a row for each place, a column for each edition (plain, drawn, guarded, old).
-const HAS: [[bool; EDITIONS]; PLACES] = [
-    [true, true, true, true], // 0 rest
-    [false, false, true, false], // 1 gate
-    [true, true, true, false], // 2 clear
-    [true, true, true, false], // 3 swap
-    [true, true, true, false], // 4 arm
-    [true, true, true, false], // 5 link
-    [false, true, true, false], // 6 claim
-    [true, true, true, false], // 7 spin
-    [false, true, true, false], // 8 settle
-    [true, true, true, true], // 9 inside
-    [false, true, true, false], // 10 poll
-    [false, true, true, false], // 11 service
-    [false, true, true, false], // 12 back
-    [false, true, true, false], // 13 regain
-    [true, true, true, false], // 14 look
-    [true, true, true, false], // 15 close
-    [true, true, true, false], // 16 await
-    [true, true, true, false], // 17 hand
-    [false, false, true, false], // 18 fence
-    [false, true, true, false], // 19 park
-    [false, true, true, false], // 20 peek
-    [false, true, true, false], // 21 take
-    [false, false, true, false], // 22 lift
-    [false, false, false, true], // 23 try
-    [false, false, false, true], // 24 poll
-    [false, false, false, true], // 25 service
-    [false, false, false, true], // 26 free
-    [false, true, false, false], // 27 reread
-    [false, true, false, false], // 28 lost
-];
-
-fn has_place(edition: u8, place: u8) -> bool
-    ensures { λ b. ⌜ b ≡ Sound.hasPlace edition place ⌝ }
-{
-    if place < LockState::PLACES {
-        if edition < LockState::EDITIONS {
-            return HAS[place as usize][edition as usize];
-        }
-    }
-    false
-}
 
 fn none_or_below(n: u8, q: u8) -> bool
     ensures { λ b. ⌜ b ≡ Sound.noneOrBelow n q ⌝ }
@@ -83,7 +35,7 @@ fn place_sound(edition: u8, r: Row) -> bool
     ensures { λ b. ⌜ b ≡ Sound.placeSound edition r ⌝ }
 {
     let k = r.place;
-    has_place(edition, k)
+    places::has_place(edition, k)
         & is_there((4 <= k) & (k <= 6), r.pred)
         & is_there(((17 <= k) & (k <= 22)) | (k == 27), r.succ)
         & is_there(k == 21, r.nx)

@@ -1,77 +1,24 @@
--- Which places an edition has: the constant table's rule, by one computed test.
---     has-right      the table of 29 rows and 4 columns is the four lists of document 01 and requests [1] and [2]
---     has-beyond     no edition has a place past the table
+-- Which places an edition has: the rule of request [5] is the lists of document 01 and requests [1] and [2], by one computed test.
+--     has-beyond     no edition has a number that is no place
 --     has-none       no other edition has a place
+--     rule-is        the rule and the lists say the same of every two numbers
+--     by-rule        what the rule says of its edition is what that edition has
+--     said-once      each place is in one of the rule's five sets, and rest and inside are in two
 --     has-normal     the number may be taken for that of the place which it names
 --     has-queue      only the old boards' lock has the places that are apart
 use Prim.Native.Nat.{ℕ, suc, _<_, _≤_}
 use native.Mathlib.Omega.{arith}
 use mathlib.Core.Path.{_≡_, refl, sym, ap, subst, _∙_}
-use mathlib.Core.Bool.{Bool, true, false, _&&_, Bool·beq, cond}
-use mathlib.Core.List.{List, [], _∷_}
-use lib.ListN.{getD}
-use lib.Dec.{ltb, leb}
-use borrow.Author.Tests.{ltb-true, ltb-false, lt-leb, ne-eqb}
+use mathlib.Core.Bool.{Bool, true, false, _&&_, _||_, Bool·beq, cond}
+use lib.Dec.{eqb, ltb, leb}
+use borrow.Author.Tests.{eqb-true, ltb-true, ltb-false, lt-leb, ne-eqb}
 use Rattle.choice.specs.Every.{every}
-use Rattle.choice.proofs.Tests.{clash, beq-eq, and-left, and-right, implies, implied}
+use Rattle.choice.proofs.Tests.{clash, beq-eq, implies, implied}
 use Rattle.choice.proofs.Numbers.{every-at}
 use Rattle.lock.specs.State.{editions, isPlain, isDrawn, isGuarded, isOld}
-use Rattle.lock.specs.Sound.{isIn, plainPlaces, drawnPlaces, guardedLast, oldPlaces, hasPlace, places}
+use Rattle.lock.specs.Sound.{isIn, plainPlaces, drawnPlaces, guardedLast, oldPlaces, hasPlace, places, interruptsAdd, guardAdds, secondReadAdds, hasByRule, timesSaid, RuleIsTheLists, EachPlaceSaidOnce}
+use Rattle.lock.proofs.Ground.Sets.{not-in}
 use Rattle.lock.proofs.Ground.Facts.{by-number, normal, normal-within, placed, entry, phaseAt, isApart, at-every}
-
--- the code's constant, once more: the check holds the two together at the function that reads it
-abbrev pub has : List (List Bool)
-has =
-    (true ∷ true ∷ true ∷ true ∷ [])
-    ∷ (false ∷ false ∷ true ∷ false ∷ [])
-    ∷ (true ∷ true ∷ true ∷ false ∷ [])
-    ∷ (true ∷ true ∷ true ∷ false ∷ [])
-    ∷ (true ∷ true ∷ true ∷ false ∷ [])
-    ∷ (true ∷ true ∷ true ∷ false ∷ [])
-    ∷ (false ∷ true ∷ true ∷ false ∷ [])
-    ∷ (true ∷ true ∷ true ∷ false ∷ [])
-    ∷ (false ∷ true ∷ true ∷ false ∷ [])
-    ∷ (true ∷ true ∷ true ∷ true ∷ [])
-    ∷ (false ∷ true ∷ true ∷ false ∷ [])
-    ∷ (false ∷ true ∷ true ∷ false ∷ [])
-    ∷ (false ∷ true ∷ true ∷ false ∷ [])
-    ∷ (false ∷ true ∷ true ∷ false ∷ [])
-    ∷ (true ∷ true ∷ true ∷ false ∷ [])
-    ∷ (true ∷ true ∷ true ∷ false ∷ [])
-    ∷ (true ∷ true ∷ true ∷ false ∷ [])
-    ∷ (true ∷ true ∷ true ∷ false ∷ [])
-    ∷ (false ∷ false ∷ true ∷ false ∷ [])
-    ∷ (false ∷ true ∷ true ∷ false ∷ [])
-    ∷ (false ∷ true ∷ true ∷ false ∷ [])
-    ∷ (false ∷ true ∷ true ∷ false ∷ [])
-    ∷ (false ∷ false ∷ true ∷ false ∷ [])
-    ∷ (false ∷ false ∷ false ∷ true ∷ [])
-    ∷ (false ∷ false ∷ false ∷ true ∷ [])
-    ∷ (false ∷ false ∷ false ∷ true ∷ [])
-    ∷ (false ∷ false ∷ false ∷ true ∷ [])
-    ∷ (false ∷ true ∷ false ∷ false ∷ [])
-    ∷ (false ∷ true ∷ false ∷ false ∷ [])
-    ∷ []
-
-all-right : every places (λ k. every editions (λ e. Bool·beq (getD (getD has k []) e false) (hasPlace e k))) ≡ true
-unfolding every hasPlace
-all-right = refl
-
-pub has-right : (e k : ℕ) → k < places → e < editions → getD (getD has k []) e false ≡ hasPlace e k
-has-right e k hk he =
-    let f : ℕ → ℕ → Bool = λ k e. Bool·beq (getD (getD has k []) e false) (hasPlace e k) in
-    beq-eq _ _ (every-at editions (f k) (every-at places (λ k. every editions (f k)) all-right k hk) e he)
-
--- every number of the list is below b
-abbrev below : ℕ → List ℕ → Bool
-below b [] = true
-below b (x ∷ xs) = ltb x b && below b xs
-
-not-in : (b k : ℕ) (xs : List ℕ) → below b xs ≡ true → b ≤ k → isIn xs k ≡ false
-not-in b k [] e h = refl
-not-in b k (x ∷ xs) e h =
-    let small : x < b = ltb-true x b (and-left (ltb x b) (below b xs) e) in
-    simp (ne-eqb x k (λ q. omega arith)) (not-in b k xs (and-right (ltb x b) (below b xs) e) h)
 
 -- whichever edition it is
 past :
@@ -90,10 +37,63 @@ has-beyond e k h =
     (isIn oldPlaces k) (not-in places k plainPlaces refl h) (not-in places k drawnPlaces refl h)
     (lt-leb k guardedLast (omega arith)) (not-in places k oldPlaces refl h)
 
+-- no edition: whatever the four have
+none-of : (e : ℕ) (x y z w : Bool) → editions ≤ e → false ≡ cond (isPlain e) x (cond (isDrawn e) y (cond (isGuarded e) z (cond (isOld e) w false)))
+none-of e x y z w h =
+    simp (ne-eqb e 0 (λ q. omega arith), ne-eqb e 1 (λ q. omega arith), ne-eqb e 2 (λ q. omega arith), ne-eqb e 3 (λ q. omega arith))
+
 pub has-none : (e k : ℕ) → editions ≤ e → false ≡ hasPlace e k
 unfolding hasPlace
-has-none e k h =
-    simp (ne-eqb e 0 (λ q. omega arith), ne-eqb e 1 (λ q. omega arith), ne-eqb e 2 (λ q. omega arith), ne-eqb e 3 (λ q. omega arith))
+has-none e k h = none-of e (isIn plainPlaces k) (isIn drawnPlaces k) (leb k guardedLast) (isIn oldPlaces k) h
+
+-- ---- the rule
+
+all-right : every places (λ k. every editions (λ e. Bool·beq (hasByRule e k) (hasPlace e k))) ≡ true
+unfolding every hasByRule hasPlace
+all-right = refl
+
+rule-beyond : (e k : ℕ) → places ≤ k → false ≡ hasByRule e k
+unfolding hasByRule
+rule-beyond e k h =
+    let queue : isIn plainPlaces k ≡ false = not-in places k plainPlaces refl h in
+    let interrupts : isIn interruptsAdd k ≡ false = not-in places k interruptsAdd refl h in
+    past (isPlain e) (isDrawn e) (isGuarded e) (isOld e) (isIn plainPlaces k)
+    (isIn plainPlaces k || isIn interruptsAdd k || isIn secondReadAdds k) (isIn plainPlaces k || isIn interruptsAdd k || isIn guardAdds k)
+    (isIn oldPlaces k) queue (simp (queue, interrupts, not-in places k secondReadAdds refl h))
+    (simp (queue, interrupts, not-in places k guardAdds refl h)) (not-in places k oldPlaces refl h)
+
+rule-none : (e k : ℕ) → editions ≤ e → false ≡ hasByRule e k
+unfolding hasByRule
+rule-none e k h =
+    none-of e (isIn plainPlaces k) (isIn plainPlaces k || isIn interruptsAdd k || isIn secondReadAdds k)
+    (isIn plainPlaces k || isIn interruptsAdd k || isIn guardAdds k) (isIn oldPlaces k) h
+
+pub rule-is : RuleIsTheLists
+rule-is e k = by (ltb k places) (ltb e editions) refl refl
+  where
+    right : ℕ → ℕ → Bool
+    right k e = Bool·beq (hasByRule e k) (hasPlace e k)
+
+    by : (near small : Bool) → ltb k places ≡ near → ltb e editions ≡ small → hasByRule e k ≡ hasPlace e k
+    by false small i j = let far : places ≤ k = ltb-false k places i in sym (rule-beyond e k far) ∙ has-beyond e k far
+    by true false i j = let other : editions ≤ e = ltb-false e editions j in sym (rule-none e k other) ∙ has-none e k other
+    by true true i j =
+        beq-eq _ _ (every-at editions (right k) (every-at places (λ k. every editions (right k)) all-right k (ltb-true k places i)) e
+        (ltb-true e editions j))
+
+pub by-rule : (e k m : ℕ) (b : Bool) → e ≡ m → b ≡ hasByRule m k → b ≡ hasPlace e k
+by-rule e k m b same right = right ∙ ap (λ e. hasByRule e k) (sym same) ∙ rule-is e k
+
+all-once : every places (λ k. eqb (timesSaid k) (cond (eqb k 0 || eqb k 9) 2 1)) ≡ true
+unfolding every timesSaid
+all-once = refl
+
+pub said-once : EachPlaceSaidOnce
+said-once k h =
+    eqb-true (timesSaid k) (cond (eqb k 0 || eqb k 9) 2 1)
+    (every-at places (λ k. eqb (timesSaid k) (cond (eqb k 0 || eqb k 9) 2 1)) all-once k h)
+
+-- ---- what the other rooms ask
 
 -- an edition has the place at m by m's number, and by that of m's place
 pub has-normal : (e m : ℕ) → hasPlace e m ≡ true → hasPlace e (normal m) ≡ true

@@ -16,26 +16,14 @@ use Rattle.lock.specs.State.{isNone, isPlain, isDrawn, isGuarded, isOld,
 use Rattle.lock.specs.Sound.{isIn, places}
 use Rattle.lock.specs.Table.{Place, placeAt, act, rest, gate, clear, swap, arm, link, claim, spin, settle, inside, poll, service, back, regain, look, close, await, hand, fence, park, peek, take, lift, oldTry, oldPoll, oldService, oldFree, reread, lost}
 use Rattle.lock.proofs.Ground.Places.{Each, begin, _▹_, at-number, lost-same}
+use Rattle.lock.proofs.Ground.Sets.{all, in-all}
 use Rattle.lock.proofs.Ground.Facts.{Phase, entry, number, normal, phaseAt, isApart, at-facts}
 use Rattle.lock.proofs.Waiting.Kept.{Kept, kept-self, kept-tail, kept-next, kept-guard, kept-flag, kept-pred, kept-succ, kept-nx, kept-release, kept-own, kept-locked, Goes, goes-to, stays}
 use Rattle.lock.specs.declared.LockState.{LockState}
 use Rattle.lock.specs.Acts as Acts
 
 abbrev pub allOf : (Place → Bool) → List ℕ → Bool
-allOf ok [] = true
-allOf ok (m ∷ ms) = ok (placeAt m) && allOf ok ms
-
--- what passes a list passes each number that is in it
-in-by :
-    (ok : Place → Bool) (m v : ℕ) (led more : Bool) (b : Bool) → eqb m v ≡ b → ok (placeAt m) && led ≡ true → b || more ≡ true
-    → (led ≡ true → more ≡ true → ok (placeAt v) ≡ true) → ok (placeAt v) ≡ true
-in-by ok m v led more true e h i later =
-    ap (λ k. ok (placeAt k)) (sym (eqb-true m v e)) ∙ and-left (ok (placeAt m)) led h
-in-by ok m v led more false e h i later = later (and-right (ok (placeAt m)) led h) i
-
-in-all : (ok : Place → Bool) (ms : List ℕ) → allOf ok ms ≡ true → (v : ℕ) → isIn ms v ≡ true → ok (placeAt v) ≡ true
-in-all ok [] h v i = clash i refl
-in-all ok (m ∷ ms) h v i = in-by ok m v (allOf ok ms) (isIn ms v) (eqb m v) refl h i (λ h i. in-all ok ms h v i)
+allOf ok ms = all (λ m. ok (placeAt m)) ms
 
 pub unjoined-leads :
     (from : Phase → Bool) (ok : Place → Bool)
@@ -66,11 +54,11 @@ module _ (s : LockState) (p : ℕ) (there : p < length (s .rows)) (ok : Place �
 
   -- after writes that keep, the last one is of the place; or there is none
   ends : {k : Place} → At k → Led k → (v : ℕ) → Leads k v → {x : LockState} → Kept s p x → Goes s p ok (to x p v)
-  ends {k} here h v i kept = goes-to v kept there (in-all ok ((entry k) .leads) h v i)
+  ends {k} here h v i kept = goes-to v kept there (in-all (λ m. ok (placeAt m)) ((entry k) .leads) h v i)
 
   remains : {k : Place} → At k → Led k → Leads k (number k) → placeAt (number k) ≡ k → {x : LockState} → Kept s p x → Goes s p ok x
   remains {k} here h i named kept =
-      stays kept (ap ok (here ∙ sym named) ∙ in-all ok ((entry k) .leads) h (number k) i)
+      stays kept (ap ok (here ∙ sym named) ∙ in-all (λ m. ok (placeAt m)) ((entry k) .leads) h (number k) i)
 
   -- the ways on that several acts share
   to-queue : {k : Place} → At k → Led k → Leads k 1 → Leads k 2 → Goes s p ok (Acts.toQueue s p)
