@@ -1,7 +1,7 @@
 // Random and damaged schedules through the bench: a line for each with its log's length and digest, and a few logs whole. Then
 // states handed in at random, each with one event. Then short schedules with every pair of bytes, and with every byte at each
-// place. Then reports over lists of the schedules. All are those of docs/RANDOM.md; what is printed is held to what the second
-// program prints of the same page.
+// place. Then reports over lists of the schedules. Then every place in every edition. All are those of docs/RANDOM.md; what is
+// printed is held to what the second program prints of the same page.
 mod bytes;
 mod cells;
 mod damage;
@@ -14,10 +14,12 @@ mod reported;
 mod start;
 mod state;
 mod text;
+mod tried;
 
 use bytes::Sweep;
 use libc::STDOUT_FILENO;
 use list::List;
+use tried::Tried;
 
 fn main() {
     // 54,010 bytes for a schedule that is too long.
@@ -28,6 +30,7 @@ fn main() {
     pairs(&mut log);
     places(&mut log);
     reports(&mut schedule);
+    editions();
 }
 
 fn schedules(schedule: &mut [u8], log: &mut [u8]) {
@@ -68,6 +71,12 @@ fn reports(schedule: &mut [u8]) {
     }
 }
 
+fn editions() {
+    for edition in 0..tried::EDITIONS {
+        run_edition(edition);
+    }
+}
+
 // List number i: drawn, reported in its order and in another, and told.
 fn run_list(i: u64, schedule: &mut [u8]) {
     let list = List::drawn(i);
@@ -79,6 +88,23 @@ fn run_list(i: u64, schedule: &mut [u8]) {
     put(i, told.refused, told.answers);
     io::write_all(STDOUT_FILENO, b" ");
     print(told.table, other.refused, other.table);
+}
+
+// An edition, tried out and told.
+fn run_edition(edition: u8) {
+    let tried = Tried::whole(edition);
+    put(edition as u64, tried.accepted, tried.digest);
+    put_places(tried);
+    io::write_all(STDOUT_FILENO, b"\n");
+}
+
+// The places with which every row was accepted.
+fn put_places(tried: Tried) {
+    for place in 0..tried::PLACES {
+        if tried.in_all_rows(place) {
+            put_more(place as u64);
+        }
+    }
 }
 
 // Schedule number i: made, run and shown.
@@ -98,8 +124,7 @@ fn tell(i: u64, schedule: &[u8], log: &mut [u8]) {
 fn show(i: u64, schedule: &[u8], log: &[u8]) {
     put(i, log.len() as u64, digest::of(log));
     if plan::CASED_FROM <= i {
-        io::write_all(STDOUT_FILENO, b" ");
-        io::print_decimal(STDOUT_FILENO, digest::of(schedule));
+        put_more(digest::of(schedule));
     }
     io::write_all(STDOUT_FILENO, b"\n");
     if i % 120 == 5 || i % 120 == 7 {
@@ -115,8 +140,12 @@ fn print(first: u64, second: u64, third: u64) {
 
 fn put(first: u64, second: u64, third: u64) {
     io::print_decimal(STDOUT_FILENO, first);
+    put_more(second);
+    put_more(third);
+}
+
+// One number more on a line.
+fn put_more(number: u64) {
     io::write_all(STDOUT_FILENO, b" ");
-    io::print_decimal(STDOUT_FILENO, second);
-    io::write_all(STDOUT_FILENO, b" ");
-    io::print_decimal(STDOUT_FILENO, third);
+    io::print_decimal(STDOUT_FILENO, number);
 }
