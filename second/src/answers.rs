@@ -1,11 +1,12 @@
-//! Answers: what comes back for the states handed in. The refusals in their order, the sides of the step table, and
-//! the tables of turns.rs.
+//! Answers: what comes back for the states handed in. The refusals in their order, the sides of the step table, the
+//! tables of turns.rs, and the places of each edition.
 
 use crate::cell::Cell;
 use crate::coverage::{self, Counts, SIDES};
 use crate::edges::Edges;
 use crate::handed::{self, Trial, TRIALS};
 use crate::lock::*;
+use crate::places::{self, Tried};
 use crate::report::Report;
 use crate::turns::{self, LEAST};
 
@@ -181,6 +182,27 @@ impl Answers {
     }
 }
 
+/// Every place in every edition: the rows must agree, and have the documents' places and no other.
+fn print_places(report: &mut Report) {
+    let (mut had, mut lacked) = (0, 0);
+    for edition in places::EVERY_EDITION {
+        let tried = Tried::of(edition);
+        for place in places::EVERY_PLACE {
+            let has = edition <= LAST_EDITION && handed::edition_has(edition, place);
+            had += tried.all(place, 0) as u64;
+            lacked += tried.all(place, REFUSED_STATE) as u64;
+            let (refusal, words) = if has { (0, "had") } else { (REFUSED_STATE, "lacked") };
+            let as_wanted = tried.all(place, refusal) as u64;
+            report.demand(as_wanted, 1, &format!("place {} of edition {}, {} in all rows", place, edition, words));
+        }
+    }
+    report.line("");
+    report.line(&format!(
+        "places: every place from 0 to 255 in each of the editions 0 to 5, in each row: {} had, {} lacked",
+        had, lacked
+    ));
+}
+
 /// The tables, and whether all that should be met is.
 pub fn print() -> (String, bool) {
     let mut answers = Answers::new();
@@ -196,6 +218,7 @@ pub fn print() -> (String, bool) {
     report.line("");
     answers.print_order(&mut report);
     turns::print(&edges, &mut report);
+    print_places(&mut report);
     report.end(&format!(
         "every test of a state handed in and of its event is met from both sides, at least {} times",
         LEAST

@@ -18,6 +18,7 @@ mod lists;
 mod lock;
 mod order;
 mod overtaking;
+mod places;
 mod random;
 mod reachable;
 mod readings;
@@ -43,6 +44,7 @@ const USAGE: &str = "usage: second              a schedule on standard input, it
        second handed       the digests of what comes back for 78,000 states handed in at random
        second bytes        the sizes and digests of the logs for every pair of bytes, and for every byte of a line
        second reports      the digests of the reports, who made whom wait, over 300 lists of random schedules
+       second places       the digests of what comes back for every place in the editions 0 to 5, and the places of each
        second report ARGUMENT..
                            the report over files: s and the name of a schedule, or t and the name of a table
        second coverage     how often the 800 schedules take each side of the step table, the states handed in
@@ -79,6 +81,7 @@ fn main() {
         ["handed"] => put(handed::print().as_bytes()),
         ["bytes"] => put(bytes::print().as_bytes()),
         ["reports"] => put(lists::print().as_bytes()),
+        ["places"] => put(places::print().as_bytes()),
         // The names as they are given: they need not be text.
         ["report", ..] => put(filed::print(std::env::args_os().skip(2)).as_bytes()),
         ["coverage"] => {
