@@ -1,7 +1,6 @@
 -- Document 01, "A state is sound when": each part in the document's order, the places of each edition as its list there, and what
--- requests [1] and [2] add; beside the lists the rule behind them, which request [5] asks for.
-use Prim.Native.Nat.{ℕ, _+_, _<_}
-use mathlib.Core.Path.{_≡_}
+-- requests [1] and [2] add.
+use Prim.Native.Nat.{ℕ}
 use mathlib.Core.Bool.{Bool, false, not, _&&_, _||_, cond}
 use mathlib.Core.List.{List, [], _∷_, _++_}
 use lib.Dec.{eqb, ltb, leb}
@@ -39,46 +38,6 @@ unfoldable pub hasPlace : ℕ → ℕ → Bool
 hasPlace e k =
     cond (isPlain e) (isIn plainPlaces k)
     (cond (isDrawn e) (isIn drawnPlaces k) (cond (isGuarded e) (leb k guardedLast) (cond (isOld e) (isIn oldPlaces k) false)))
-
--- The rule behind the lists: [5] "what the plain lock has, what interrupts add, what the guard adds", and, since [1] and [2], what the
--- drawn edition's second read adds and what the old boards' lock has. The first and the last of these five sets are `plainPlaces` and
--- `oldPlaces`.
-
--- claim, settle, poll, service, back, regain, park, peek, take
-abbrev pub interruptsAdd : List ℕ
-interruptsAdd = 6 ∷ 8 ∷ 10 ∷ 11 ∷ 12 ∷ 13 ∷ 19 ∷ 20 ∷ 21 ∷ []
-
--- gate, fence, lift
-abbrev pub guardAdds : List ℕ
-guardAdds = 1 ∷ 18 ∷ 22 ∷ []
-
--- reread, lost
-abbrev pub secondReadAdds : List ℕ
-secondReadAdds = 27 ∷ 28 ∷ []
-
--- The editions do not nest: drawn and guarded have in common what plain has and what interrupts add, and each has something that the
--- other lacks; the old boards' lock shares rest and inside with the others, and nothing else.
-unfoldable pub hasByRule : ℕ → ℕ → Bool
-hasByRule e k =
-    cond (isPlain e) (isIn plainPlaces k)
-    (cond (isDrawn e) (isIn plainPlaces k || isIn interruptsAdd k || isIn secondReadAdds k)
-    (cond (isGuarded e) (isIn plainPlaces k || isIn interruptsAdd k || isIn guardAdds k)
-    (cond (isOld e) (isIn oldPlaces k) false)))
-
--- the rule and the lists say the same, of every edition and place, and of every other number
-abbrev pub RuleIsTheLists : Type 0
-RuleIsTheLists = (e k : ℕ) → hasByRule e k ≡ hasPlace e k
-
--- in how many of the five sets the place k is
-unfoldable pub timesSaid : ℕ → ℕ
-timesSaid k = times plainPlaces + times interruptsAdd + times guardAdds + times secondReadAdds + times oldPlaces
-  where
-    times : List ℕ → ℕ
-    times ks = cond (isIn ks k) 1 0
-
--- what is added was not there before: each of the 29 places is in one of the sets, and only rest and inside are in two
-abbrev pub EachPlaceSaidOnce : Type 0
-EachPlaceSaidOnce = (k : ℕ) → k < places → timesSaid k ≡ cond (eqb k 0 || eqb k 9) 2 1
 
 -- "none or below N"
 abbrev pub noneOrBelow : ℕ → ℕ → Bool

@@ -1,6 +1,6 @@
 // Facts about the definitions, each the promise of an empty function, so that the check names it as proved.
 ghost use Rattle.lock.specs.Cases.{CasesHold};
-ghost use Rattle.lock.specs.Sound.{RuleIsTheLists, EachPlaceSaidOnce};
+ghost use Rattle.lock.specs.Places.{SetsByName, RuleIsTheLists, EachPlaceSaidOnce};
 ghost use Rattle.lock.specs.Unique.{OnlyOneAnswer};
 
 // Document 01's cases P1 to P12.
@@ -13,7 +13,12 @@ pub fn only_one_answer()
     ensures { λ _. ⌜ OnlyOneAnswer ⌝ }
 {}
 
-// Which places an edition has: the rule is document 01's lists.
+// Which places an edition has: the sets of the rule by name.
+pub fn sets_by_name()
+    ensures { λ _. ⌜ SetsByName ⌝ }
+{}
+
+// The rule is document 01's lists.
 pub fn rule_is_the_lists()
     ensures { λ _. ⌜ RuleIsTheLists ⌝ }
 {}

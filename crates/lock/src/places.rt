@@ -1,13 +1,14 @@
-// Which places an edition has, as a rule: first what each part of a lock brings with it, then the editions, put together from these
-// parts. Below stand the places by name.
+// Which places an edition has, as the rule of request [5]: first what each part of a lock brings with it, then the editions, put
+// together from these parts. At the end stand the places by name.
 use crate::LockState;
 ghost use mathlib.Core.Path.{_≡_};
 ghost use mathlib.Core.Bool.{_||_};
-ghost use Rattle.lock.specs.Sound.{isIn, plainPlaces, interruptsAdd, guardAdds, secondReadAdds, oldPlaces, hasPlace};
+ghost use Rattle.lock.specs.Sound.{isIn, hasPlace};
+ghost use Rattle.lock.specs.Places.{everyQueueLockHas, interruptsAdd, guardAdds, secondReadAdds, oldLockHas};
 
 // What every queue lock has. The plain lock has no more.
 fn every_queue_lock_has(place: u8) -> bool
-    ensures { λ b. ⌜ b ≡ isIn plainPlaces place ⌝ }
+    ensures { λ b. ⌜ b ≡ isIn everyQueueLockHas place ⌝ }
 {
     let as_any_lock = (place == REST) | (place == INSIDE);
     let to_join = (place == CLEAR) | (place == SWAP) | (place == ARM) | (place == LINK);
@@ -16,8 +17,8 @@ fn every_queue_lock_has(place: u8) -> bool
     as_any_lock | to_join | to_wait | to_hand_on
 }
 
-// What interrupts add to a queue lock: who waits may leave the line to serve one, and comes back; who hands on, or joins, may then
-// meet one that is away.
+// What interrupts add to a queue lock: who waits may leave the line to serve one, and comes back; who hands on, or joins, may
+// then meet one that is away.
 fn interrupts_add(place: u8) -> bool
     ensures { λ b. ⌜ b ≡ isIn interruptsAdd place ⌝ }
 {
@@ -46,7 +47,7 @@ fn second_read_adds(place: u8) -> bool
 
 // What the old boards' lock has. It has no queue.
 fn old_lock_has(place: u8) -> bool
-    ensures { λ b. ⌜ b ≡ isIn oldPlaces place ⌝ }
+    ensures { λ b. ⌜ b ≡ isIn oldLockHas place ⌝ }
 {
     let as_any_lock = (place == REST) | (place == INSIDE);
     let of_its_own = (place == OLD_TRY)
@@ -58,14 +59,14 @@ fn old_lock_has(place: u8) -> bool
 
 // A queue lock with interrupts: drawn and guarded have this in common.
 fn lock_with_interrupts_has(place: u8) -> bool
-    ensures { λ b. ⌜ b ≡ isIn plainPlaces place || isIn interruptsAdd place ⌝ }
+    ensures { λ b. ⌜ b ≡ isIn everyQueueLockHas place || isIn interruptsAdd place ⌝ }
 {
     every_queue_lock_has(place) || interrupts_add(place)
 }
 
-// The editions do not nest. Plain is in drawn and in guarded; but the second read is drawn's alone and the guard is guarded's alone,
-// so neither of these two has all that the other has. The old boards' lock stands apart: it shares rest and inside with the others,
-// and nothing else.
+// The editions do not nest. Drawn and guarded both have all that plain has; but the second read is drawn's alone and the guard is
+// guarded's alone, so neither of the two has all that the other has. The old boards' lock stands apart: it shares rest and inside
+// with the others, and nothing else.
 pub(crate) fn has_place(edition: u8, place: u8) -> bool
     ensures { λ b. ⌜ b ≡ hasPlace edition place ⌝ }
 {

@@ -1,9 +1,11 @@
--- Which places an edition has: the rule of request [5] is the lists of document 01 and requests [1] and [2], by one computed test.
+-- Which places an edition has: the rule of request [5] is the lists of document 01 and requests [1] and [2], by one computed
+-- test.
 --     has-beyond     no edition has a number that is no place
 --     has-none       no other edition has a place
 --     rule-is        the rule and the lists say the same of every two numbers
 --     by-rule        what the rule says of its edition is what that edition has
---     said-once      each place is in one of the rule's five sets, and rest and inside are in two
+--     sets-by-name   the rule's five sets by name
+--     said-once      each place is in one of the sets, and rest and inside are in two
 --     has-normal     the number may be taken for that of the place which it names
 --     has-queue      only the old boards' lock has the places that are apart
 use Prim.Native.Nat.{ℕ, suc, _<_, _≤_}
@@ -16,7 +18,8 @@ use Rattle.choice.specs.Every.{every}
 use Rattle.choice.proofs.Tests.{clash, beq-eq, implies, implied}
 use Rattle.choice.proofs.Numbers.{every-at}
 use Rattle.lock.specs.State.{editions, isPlain, isDrawn, isGuarded, isOld}
-use Rattle.lock.specs.Sound.{isIn, plainPlaces, drawnPlaces, guardedLast, oldPlaces, hasPlace, places, interruptsAdd, guardAdds, secondReadAdds, hasByRule, timesSaid, RuleIsTheLists, EachPlaceSaidOnce}
+use Rattle.lock.specs.Sound.{isIn, plainPlaces, drawnPlaces, guardedLast, oldPlaces, hasPlace, places}
+use Rattle.lock.specs.Places.{everyQueueLockHas, interruptsAdd, guardAdds, secondReadAdds, oldLockHas, hasByRule, timesSaid, SetsByName, RuleIsTheLists, EachPlaceSaidOnce}
 use Rattle.lock.proofs.Ground.Sets.{not-in}
 use Rattle.lock.proofs.Ground.Facts.{by-number, normal, normal-within, placed, entry, phaseAt, isApart, at-every}
 
@@ -38,7 +41,9 @@ has-beyond e k h =
     (lt-leb k guardedLast (omega arith)) (not-in places k oldPlaces refl h)
 
 -- no edition: whatever the four have
-none-of : (e : ℕ) (x y z w : Bool) → editions ≤ e → false ≡ cond (isPlain e) x (cond (isDrawn e) y (cond (isGuarded e) z (cond (isOld e) w false)))
+none-of :
+    (e : ℕ) (x y z w : Bool) → editions ≤ e
+    → false ≡ cond (isPlain e) x (cond (isDrawn e) y (cond (isGuarded e) z (cond (isOld e) w false)))
 none-of e x y z w h =
     simp (ne-eqb e 0 (λ q. omega arith), ne-eqb e 1 (λ q. omega arith), ne-eqb e 2 (λ q. omega arith), ne-eqb e 3 (λ q. omega arith))
 
@@ -55,18 +60,19 @@ all-right = refl
 rule-beyond : (e k : ℕ) → places ≤ k → false ≡ hasByRule e k
 unfolding hasByRule
 rule-beyond e k h =
-    let queue : isIn plainPlaces k ≡ false = not-in places k plainPlaces refl h in
+    let queue : isIn everyQueueLockHas k ≡ false = not-in places k everyQueueLockHas refl h in
     let interrupts : isIn interruptsAdd k ≡ false = not-in places k interruptsAdd refl h in
-    past (isPlain e) (isDrawn e) (isGuarded e) (isOld e) (isIn plainPlaces k)
-    (isIn plainPlaces k || isIn interruptsAdd k || isIn secondReadAdds k) (isIn plainPlaces k || isIn interruptsAdd k || isIn guardAdds k)
-    (isIn oldPlaces k) queue (simp (queue, interrupts, not-in places k secondReadAdds refl h))
-    (simp (queue, interrupts, not-in places k guardAdds refl h)) (not-in places k oldPlaces refl h)
+    past (isPlain e) (isDrawn e) (isGuarded e) (isOld e) (isIn everyQueueLockHas k)
+    (isIn everyQueueLockHas k || isIn interruptsAdd k || isIn secondReadAdds k)
+    (isIn everyQueueLockHas k || isIn interruptsAdd k || isIn guardAdds k) (isIn oldLockHas k) queue
+    (simp (queue, interrupts, not-in places k secondReadAdds refl h)) (simp (queue, interrupts, not-in places k guardAdds refl h))
+    (not-in places k oldLockHas refl h)
 
 rule-none : (e k : ℕ) → editions ≤ e → false ≡ hasByRule e k
 unfolding hasByRule
 rule-none e k h =
-    none-of e (isIn plainPlaces k) (isIn plainPlaces k || isIn interruptsAdd k || isIn secondReadAdds k)
-    (isIn plainPlaces k || isIn interruptsAdd k || isIn guardAdds k) (isIn oldPlaces k) h
+    none-of e (isIn everyQueueLockHas k) (isIn everyQueueLockHas k || isIn interruptsAdd k || isIn secondReadAdds k)
+    (isIn everyQueueLockHas k || isIn interruptsAdd k || isIn guardAdds k) (isIn oldLockHas k) h
 
 pub rule-is : RuleIsTheLists
 rule-is e k = by (ltb k places) (ltb e editions) refl refl
@@ -78,11 +84,15 @@ rule-is e k = by (ltb k places) (ltb e editions) refl refl
     by false small i j = let far : places ≤ k = ltb-false k places i in sym (rule-beyond e k far) ∙ has-beyond e k far
     by true false i j = let other : editions ≤ e = ltb-false e editions j in sym (rule-none e k other) ∙ has-none e k other
     by true true i j =
-        beq-eq _ _ (every-at editions (right k) (every-at places (λ k. every editions (right k)) all-right k (ltb-true k places i)) e
-        (ltb-true e editions j))
+        let column : every editions (right k) ≡ true =
+        every-at places (λ k. every editions (right k)) all-right k (ltb-true k places i) in
+        beq-eq _ _ (every-at editions (right k) column e (ltb-true e editions j))
 
 pub by-rule : (e k m : ℕ) (b : Bool) → e ≡ m → b ≡ hasByRule m k → b ≡ hasPlace e k
 by-rule e k m b same right = right ∙ ap (λ e. hasByRule e k) (sym same) ∙ rule-is e k
+
+pub sets-by-name : SetsByName
+sets-by-name = record { queue = refl; interrupts = refl; guard = refl; secondRead = refl; old = refl }
 
 all-once : every places (λ k. eqb (timesSaid k) (cond (eqb k 0 || eqb k 9) 2 1)) ≡ true
 unfolding every timesSaid

@@ -1,9 +1,9 @@
--- `lock::places::has_place` meets its contract: each arm puts together what the rule says of its edition, and no other edition has a
--- place.
+-- `lock::places::has_place` meets its contract: each arm puts together what the rule says of its edition, and no other edition
+-- has a place.
 use borrow.Author.Needs.{needs}
 use Rattle.choice.proofs.Numbers.{avoids-far}
 use Rattle.lock.specs.State.{editions}
-use Rattle.lock.specs.Sound.{hasByRule}
+use Rattle.lock.specs.Places.{hasByRule}
 use Rattle.lock.proofs.Ground.Sets.{by-first, by-second}
 use Rattle.lock.proofs.Ground.Editions.{by-rule, has-none}
 use Rattle.lock.proofs.places.has_place.Statement.{statement}
@@ -16,7 +16,8 @@ returns c = by-rule _ _ 0 _ (c .before .match .keys1) (c .every-queue-lock-has .
 returns-2 : tie.Need-returns-2
 unfolding hasByRule
 returns-2 c =
-    by-rule _ _ 1 _ (c .before .before .match .keys2) (by-first _ _ (c .before .lock-with-interrupts-has .ensures) (c .if1 .taken))
+    by-rule _ _ 1 _ (c .before .before .match .keys2)
+    (by-first _ _ (c .before .lock-with-interrupts-has .ensures) (c .if1 .taken))
 
 returns-3 : tie.Need-returns-3
 unfolding hasByRule
@@ -27,7 +28,8 @@ returns-3 c =
 returns-4 : tie.Need-returns-4
 unfolding hasByRule
 returns-4 c =
-    by-rule _ _ 2 _ (c .before .before .match .keys3) (by-first _ _ (c .before .lock-with-interrupts-has2 .ensures) (c .if2 .taken))
+    by-rule _ _ 2 _ (c .before .before .match .keys3)
+    (by-first _ _ (c .before .lock-with-interrupts-has2 .ensures) (c .if2 .taken))
 
 returns-5 : tie.Need-returns-5
 unfolding hasByRule
