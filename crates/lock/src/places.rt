@@ -10,51 +10,90 @@ ghost use Rattle.lock.specs.Places.{everyQueueLockHas, interruptsAdd, gu
 fn every_queue_lock_has(place: u8) -> bool
     ensures { λ b. ⌜ b ≡ isIn everyQueueLockHas place ⌝ }
 {
-    let as_any_lock = (place == REST) | (place == INSIDE);
-    let to_join = (place == CLEAR) | (place == SWAP) | (place == ARM) | (place == LINK);
-    let to_wait = place == SPIN;
-    let to_hand_on = (place == LOOK) | (place == CLOSE) | (place == AWAIT) | (place == HAND);
-    as_any_lock | to_join | to_wait | to_hand_on
+    match place {
+        // as every lock
+        REST => true,
+        INSIDE => true,
+        // to join the line
+        CLEAR => true,
+        SWAP => true,
+        ARM => true,
+        LINK => true,
+        // to wait in it
+        SPIN => true,
+        // to hand the lock on
+        LOOK => true,
+        CLOSE => true,
+        AWAIT => true,
+        HAND => true,
+        _ => false,
+    }
 }
 
-// What interrupts add to a queue lock: who waits may leave the line to serve one, and comes back; who hands on, or joins, may
-// then meet one that is away.
+// What interrupts add to a queue lock.
 fn interrupts_add(place: u8) -> bool
     ensures { λ b. ⌜ b ≡ isIn interruptsAdd place ⌝ }
 {
-    let to_serve = (place == POLL) | (place == SERVICE);
-    let to_come_back = (place == BACK) | (place == REGAIN);
-    let to_hand_on = (place == PARK) | (place == PEEK) | (place == TAKE);
-    let to_join = (place == CLAIM) | (place == SETTLE);
-    to_serve | to_come_back | to_hand_on | to_join
+    match place {
+        // who waits may leave the line to serve one
+        POLL => true,
+        SERVICE => true,
+        // and then has to learn what became of its turn
+        BACK => true,
+        REGAIN => true,
+        // who hands on may meet one that is away
+        PARK => true,
+        PEEK => true,
+        TAKE => true,
+        // and who joins behind that one may find the lock left with it
+        CLAIM => true,
+        SETTLE => true,
+        _ => false,
+    }
 }
 
-// What the guard adds to a lock with interrupts: who hands on guards one that is away, and a guarded one does not join.
+// What the guard adds to a lock with interrupts.
 fn guard_adds(place: u8) -> bool
     ensures { λ b. ⌜ b ≡ isIn guardAdds place ⌝ }
 {
-    let to_hand_on = (place == FENCE) | (place == LIFT);
-    let to_join = place == GATE;
-    to_hand_on | to_join
+    match place {
+        // who hands on guards one that is away, until it is done with it
+        FENCE => true,
+        LIFT => true,
+        // and who is guarded does not join
+        GATE => true,
+        _ => false,
+    }
 }
 
-// What the second read adds to a lock with interrupts: who took the lock back asks anew to whom it goes, and may find nobody.
+// What the second read adds to a lock with interrupts.
 fn second_read_adds(place: u8) -> bool
     ensures { λ b. ⌜ b ≡ isIn secondReadAdds place ⌝ }
 {
-    (place == REREAD) | (place == LOST)
+    match place {
+        // who took the lock back asks anew to whom it goes
+        REREAD => true,
+        // and may find nobody
+        LOST => true,
+        _ => false,
+    }
 }
 
 // What the old boards' lock has. It has no queue.
 fn old_lock_has(place: u8) -> bool
     ensures { λ b. ⌜ b ≡ isIn oldLockHas place ⌝ }
 {
-    let as_any_lock = (place == REST) | (place == INSIDE);
-    let of_its_own = (place == OLD_TRY)
-        | (place == OLD_POLL)
-        | (place == OLD_SERVICE)
-        | (place == OLD_FREE);
-    as_any_lock | of_its_own
+    match place {
+        // as every lock
+        REST => true,
+        INSIDE => true,
+        // of its own
+        OLD_TRY => true,
+        OLD_POLL => true,
+        OLD_SERVICE => true,
+        OLD_FREE => true,
+        _ => false,
+    }
 }
 
 // A queue lock with interrupts: drawn and guarded have this in common.
@@ -70,6 +109,9 @@ fn lock_with_interrupts_has(place: u8) -> bool
 pub(crate) fn has_place(edition: u8, place: u8) -> bool
     ensures { λ b. ⌜ b ≡ hasPlace edition place ⌝ }
 {
+    if LockState::PLACES <= place {
+        return false;
+    }
     match edition {
         LockState::PLAIN => every_queue_lock_has(place),
         LockState::DRAWN => lock_with_interrupts_has(place) || second_read_adds(place),

@@ -1,16 +1,16 @@
--- A set of numbers: as a list, and as the code tells it, by tests of one number that are joined by or.
---     all, in-all      what passes a list passes each number that is in it
---     not-in           no number is in a list of smaller ones
---     Told, tells      tests of one number, joined by or
---     told             they tell what a list has, if they name each number of it and no other
---     by-first, by-second      two parts joined by or: where the first holds, and where it fails and the second is asked
+-- A set of numbers: as a list, and as the code tells it, by a match or by two parts joined by or.
+--     all, in-all              what passes a list passes each number that is in it
+--     not-in                   no number is in a list of smaller ones
+--     in-list                  an arm of the match names a number of the list
+--     Outside, in-none         the last arm is for those that are not in it, where the others name each number of the list
+--     by-first, by-second      two parts: where the first holds, and where it fails and the second is asked
 use Prim.Native.Nat.{ℕ, _≤_, _<_}
 use native.Mathlib.Omega.{arith}
 use mathlib.Core.Path.{_≡_, refl, sym, ap, _∙_}
 use mathlib.Core.Bool.{Bool, true, false, _&&_, _||_}
 use mathlib.Core.List.{List, [], _∷_}
 use lib.Dec.{eqb, ltb}
-use borrow.Author.Tests.{eqb-true, ltb-true}
+use borrow.Author.Tests.{eqb-true, ltb-true, ne-eqb}
 use Rattle.choice.proofs.Tests.{clash, and-left, and-right}
 use Rattle.lock.specs.Sound.{isIn}
 
@@ -35,39 +35,26 @@ not-in b k xs small far = by (isIn xs k) refl
     by false e = e
     by true e = let near : k < b = ltb-true k b (in-all (λ x. ltb x b) xs small k e) in absurd (omega arith)
 
--- ---- as the code tells it
+-- ---- as a match tells it
 
-infixl 20 _or_
-pub data Told : Type 0 where
-  is : ℕ → Told
-  _or_ : Told → Told → Told
+pub in-list : (xs : List ℕ) {k x : ℕ} → isIn xs x ≡ true → k ≡ x → true ≡ isIn xs k
+in-list xs e same = sym (ap (isIn xs) same ∙ e)
 
-abbrev pub tells : Told → ℕ → Bool
-tells (is x) k = eqb k x
-tells (a or b) k = tells a k || tells b k
+-- k is none of the numbers, as the last arm of a match has it: the arm before it comes first in the list
+abbrev pub Outside : ℕ → List ℕ → Type 0
+Outside k [] = Unit {0}
+Outside k (y ∷ ys) = Outside k ys × (k ≡ y → ⊥)
 
--- every number that is named passes
-abbrev pub named : Told → (ℕ → Bool) → Bool
-named (is x) ok = ok x
-named (a or b) ok = named a ok && named b ok
+outside : (ys : List ℕ) (k : ℕ) → Outside k ys → isIn ys k ≡ false
+outside [] k o = refl
+outside (y ∷ ys) k o = simp (ne-eqb y k (λ q. o .1 (sym q)), outside ys k (o .0))
 
-either : {A : Type 0} (a b : Bool) → (a ≡ true → A) → (b ≡ true → A) → a || b ≡ true → A
-either true b f g e = f refl
-either false b f g e = g e
-
-named-passes : (t : Told) (ok : ℕ → Bool) → named t ok ≡ true → (k : ℕ) → tells t k ≡ true → ok k ≡ true
-named-passes (is x) ok h k e = ap ok (eqb-true k x e) ∙ h
-named-passes (a or b) ok h k e =
-    either (tells a k) (tells b k) (named-passes a ok (and-left (named a ok) (named b ok) h) k)
-    (named-passes b ok (and-right (named a ok) (named b ok) h) k) e
-
-pub told : (t : Told) (xs : List ℕ) → named t (isIn xs) ≡ true → all (tells t) xs ≡ true → (k : ℕ) → tells t k ≡ isIn xs k
-told t xs no-other each k = by (tells t k) (isIn xs k) refl refl
+pub in-none : (ys xs : List ℕ) (k : ℕ) → all (isIn ys) xs ≡ true → Outside k ys → false ≡ isIn xs k
+in-none ys xs k each o = by (isIn xs k) refl
   where
-    by : (a b : Bool) → tells t k ≡ a → isIn xs k ≡ b → a ≡ b
-    by true b e f = sym (sym f ∙ named-passes t (isIn xs) no-other k e)
-    by false true e f = clash (in-all (tells t) xs each k f) e
-    by false false e f = refl
+    by : (i : Bool) → isIn xs k ≡ i → false ≡ i
+    by false e = refl
+    by true e = clash (in-all (isIn ys) xs each k e) (outside ys k o)
 
 -- ---- from two parts
 
