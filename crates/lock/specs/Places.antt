@@ -12,7 +12,7 @@ use mathlib.Core.List.{List, [], _∷_, map}
 use lib.Dec.{eqb}
 use Rattle.lock.specs.State.{isPlain, isDrawn, isGuarded, isOld}
 use Rattle.lock.specs.Sound.{places, isIn, plainPlaces, oldPlaces, hasPlace}
-use Rattle.lock.specs.Table.{Place, placeAt, rest, gate, clear, swap, arm, link, claim, spin, settle, inside, poll, service, back, regain, look, close, await, hand, fence, park, peek, take, lift, oldTry, oldPoll, oldService, oldFree, reread, lost}
+use Rattle.lock.specs.Table.{placeAt, rest, gate, clear, swap, arm, link, claim, spin, settle, inside, poll, service, back, regain, look, close, await, hand, fence, park, peek, take, lift, oldTry, oldPoll, oldService, oldFree, reread, lost}
 
 -- "what the plain lock has": every queue lock has it
 abbrev pub everyQueueLockHas : List ℕ

@@ -8,7 +8,7 @@
 --     said-once      each place is in one of the sets, and rest and inside are in two
 --     has-normal     the number may be taken for that of the place which it names
 --     has-queue      only the old boards' lock has the places that are apart
-use Prim.Native.Nat.{ℕ, suc, _<_, _≤_}
+use Prim.Native.Nat.{ℕ, suc, _≤_}
 use native.Mathlib.Omega.{arith}
 use mathlib.Core.Path.{_≡_, refl, sym, ap, subst, _∙_}
 use mathlib.Core.Bool.{Bool, true, false, _&&_, _||_, Bool·beq, cond}

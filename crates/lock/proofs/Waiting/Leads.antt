@@ -6,12 +6,12 @@
 use Prim.Native.Nat.{ℕ, suc, _<_}
 use mathlib.Core.Path.{_≡_, refl, sym, ap, subst, _∙_}
 use mathlib.Core.Bool.{Bool, true, false, _&&_, _||_}
-use mathlib.Core.List.{List, [], _∷_}
+use mathlib.Core.List.{List}
 use lib.ListN.{length}
 use lib.Dec.{eqb}
 use borrow.Author.Tests.{eqb-true, eqb-false}
 use Rattle.choice.specs.Every.{every}
-use Rattle.choice.proofs.Tests.{clash, and-left, and-right, right-of, implies, implied, by-either, by-test}
+use Rattle.choice.proofs.Tests.{right-of, implies, implied, by-either, by-test}
 use Rattle.lock.specs.State.{isNone, isPlain, isDrawn, isGuarded, isOld, Released, Locked, Preempted, RP, row, putTail, putNext, putLocked, to, putPred}
 use Rattle.lock.specs.Sound.{isIn, places}
 use Rattle.lock.specs.Table.{Place, placeAt, act, rest, gate, clear, swap, arm, link, claim, spin, settle, inside, poll, service, back, regain, look, close, await, hand, fence, park, peek, take, lift, oldTry, oldPoll, oldService, oldFree, reread, lost}
