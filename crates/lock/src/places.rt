@@ -109,6 +109,7 @@ fn lock_with_interrupts_has(place: u8) -> bool
 pub(crate) fn has_place(edition: u8, place: u8) -> bool
     ensures { λ b. ⌜ b ≡ hasPlace edition place ⌝ }
 {
+    // A number that is no place: no set has it, and it is told sooner so.
     if LockState::PLACES <= place {
         return false;
     }
