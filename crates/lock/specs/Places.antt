@@ -1,6 +1,6 @@
--- Request [5], "the rule written out: what the plain lock has, what interrupts add, what the guard adds"; and, since requests [1] and
--- [2], what the drawn edition's second read adds and what the old boards' lock has. What an edition has is said by the lists in
--- Sound, word for word document 01's; this page tells the rule behind them, and that it comes to the same.
+-- Request [5], "the rule written out: what the plain lock has, what interrupts add, what the guard adds"; and, since requests [1]
+-- and [2], what the drawn edition's second read adds and what the old boards' lock has. What an edition has is said by the lists in
+-- Sound, which are the documents'; this page tells the rule behind them, and that it comes to the same.
 --     hasByRule             the place k is one that edition e has, by the rule
 --     SetsByName            the places of each set by their names in the step table
 --     RuleIsTheLists        the rule and the lists say the same

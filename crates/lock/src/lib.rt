@@ -1,6 +1,6 @@
 // The state of one lock and up to sixteen processors, its soundness, the step table and the events. Here are the types and the
-// limits; each module is one part of document 01: `cells` a state's cells, `sound` soundness, `places` which places an edition has,
-// `acts` and `table` the step table, `event` the events. `claims`, `kept` and `laws` promise what is proved of them.
+// limits; each module is one part of document 01: `cells` a state's cells, `sound` soundness, `places` which places an edition
+// has, `acts` and `table` the step table, `event` the events. `claims`, `kept` and `laws` promise what is proved of them.
 ghost use mathlib.Core.Path.{_≡_};
 ghost use Rattle.lock.specs.State.{freshRow};
 

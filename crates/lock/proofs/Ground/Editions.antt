@@ -8,7 +8,7 @@
 --     said-once      each place is in one of the sets, and rest and inside are in two
 --     has-normal     the number may be taken for that of the place which it names
 --     has-queue      only the old boards' lock has the places that are apart
-use Prim.Native.Nat.{ℕ, suc, _≤_}
+use Prim.Native.Nat.{ℕ, suc, _≤_, _<_}
 use native.Mathlib.Omega.{arith}
 use mathlib.Core.Path.{_≡_, refl, sym, ap, subst, _∙_}
 use mathlib.Core.Bool.{Bool, true, false, _&&_, _||_, Bool·beq, cond}
@@ -45,7 +45,8 @@ none-of :
     (e : ℕ) (x y z w : Bool) → editions ≤ e
     → false ≡ cond (isPlain e) x (cond (isDrawn e) y (cond (isGuarded e) z (cond (isOld e) w false)))
 none-of e x y z w h =
-    simp (ne-eqb e 0 (λ q. omega arith), ne-eqb e 1 (λ q. omega arith), ne-eqb e 2 (λ q. omega arith), ne-eqb e 3 (λ q. omega arith))
+    let other : (v : ℕ) → v < editions → eqb e v ≡ false = λ v small. ne-eqb e v (λ q. omega arith) in
+    simp (other 0 (omega arith), other 1 (omega arith), other 2 (omega arith), other 3 (omega arith))
 
 pub has-none : (e k : ℕ) → editions ≤ e → false ≡ hasPlace e k
 unfolding hasPlace

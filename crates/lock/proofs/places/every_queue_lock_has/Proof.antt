@@ -21,4 +21,5 @@ every-queue-lock-has-spec =
     (λ c. in-list everyQueueLockHas refl (c .match .keys9))
     (λ c. in-list everyQueueLockHas refl (c .match .keys10))
     (λ c. in-list everyQueueLockHas refl (c .match .keys11))
-    (λ c. in-none (_ ∷ _ ∷ _ ∷ _ ∷ _ ∷ _ ∷ _ ∷ _ ∷ _ ∷ _ ∷ _ ∷ []) everyQueueLockHas (c .before .args .place) refl (c .match .rest)))
+    (λ c. in-none (_ ∷ _ ∷ _ ∷ _ ∷ _ ∷ _ ∷ _ ∷ _ ∷ _ ∷ _ ∷ _ ∷ [])
+    everyQueueLockHas (c .before .args .place) refl (c .match .rest)))

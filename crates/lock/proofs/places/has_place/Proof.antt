@@ -1,5 +1,5 @@
--- `lock::places::has_place` meets its contract: a number that is no place no edition has; each arm puts together what the rule says
--- of its edition; and no other edition has a place.
+-- `lock::places::has_place` meets its contract: a number that is no place no edition has; each arm puts together what the rule
+-- says of its edition; and no other edition has a place.
 use borrow.Author.Needs.{needs}
 use Rattle.choice.proofs.Numbers.{avoids-far}
 use Rattle.lock.specs.State.{editions}
@@ -19,7 +19,8 @@ plain c = by-rule _ _ 0 _ (c .before .match .keys1) (c .every-queue-lock-has .en
 drawn : tie.Need-returns-3
 unfolding hasByRule
 drawn c =
-    by-rule _ _ 1 _ (c .before .before .match .keys2) (by-first _ _ (c .before .lock-with-interrupts-has .ensures) (c .if2 .taken))
+    by-rule _ _ 1 _ (c .before .before .match .keys2)
+    (by-first _ _ (c .before .lock-with-interrupts-has .ensures) (c .if2 .taken))
 
 drawn-more : tie.Need-returns-4
 unfolding hasByRule
@@ -30,7 +31,8 @@ drawn-more c =
 guarded : tie.Need-returns-5
 unfolding hasByRule
 guarded c =
-    by-rule _ _ 2 _ (c .before .before .match .keys3) (by-first _ _ (c .before .lock-with-interrupts-has2 .ensures) (c .if3 .taken))
+    by-rule _ _ 2 _ (c .before .before .match .keys3)
+    (by-first _ _ (c .before .lock-with-interrupts-has2 .ensures) (c .if3 .taken))
 
 guarded-more : tie.Need-returns-6
 unfolding hasByRule
@@ -48,5 +50,5 @@ other c = has-none _ _ (avoids-far _ editions (c .match .rest))
 pub has-place-spec : {M : Type 1} → statement M
 has-place-spec =
     tie.close
-    (tie.spec beyond (λ c κs. search needs) (λ c κs. search needs) (λ c κs. search needs) (λ c κs. search needs) (λ c κs. search needs)
-    (λ c κs. search needs) plain drawn drawn-more guarded guarded-more old other)
+    (tie.spec beyond (λ c κs. search needs) (λ c κs. search needs) (λ c κs. search needs) (λ c κs. search needs)
+    (λ c κs. search needs) (λ c κs. search needs) plain drawn drawn-more guarded guarded-more old other)
