@@ -1,7 +1,6 @@
 # numbers.awk: a log in words to docs/RANDOM.md's verdict in numbers, for .ci/verdicts. Each step is added to the file that
 # `places` names: edition, name of the place, place it leads to. The status is 1 where the verdict does not say that the lock is
-# lost though one goes to place 28, or names another line; or where somebody enters after that line; or where the undos are not
-# counted, or take back a line that no line says is taken back. What was taken back is neither a loss nor an entry.
+# lost though one goes to place 28, or names another line; or where somebody enters after that line.
 
 /^   1  edition / { edition = $3; N = $6 + 0 }
 /^line / { act = index($0, "act"); place = index($0, "place"); next }
@@ -10,33 +9,20 @@ act && /^ *[0-9]+ / && $2 != "REFUSED," { event($1, substr($0, act, place - act)
 table { joins = joins "\n" join($1, $2, $0) }
 /^(joined|first tried) / { table = 1 }
 /^the lock is lost from line / { told = $7 }
-/^[0-9]+ of the [0-9]+ accepted lines count nowhere: / { counted = $9 }
 END {
     if (N == 0) exit
     print "run " edition " " N " " events + 0
     print "acts " (letters == "" ? "none" : letters) joins
-    for (k = 2; k <= events + 1; k++) {
-        if ((k in gone) != (k in said) || (k in gone) && gone[k] != said[k]) wrong = 1
-        if (k in gone) continue
-        if (lost && (k in enters)) wrong = 1
-        if (k in loses) lost = k
-    }
-    exit told + 0 != lost + 0 || counted + 0 != undos + 0 || wrong
+    exit told + 0 != lost + 0 || late
 }
 
 function event(line, name, to) {
     events++
-    if (to ~ /^to 9 /) enters[line] = 1
-    if (to ~ /^to 28 /) loses[line] = 1
+    if (lost && to ~ /^to 9 /) late = 1
+    if (to ~ /^to 28 /) lost = line
     sub(/ +$/, "", name)
-    letters = letters (name == "raise" ? "r" : name == "undo" ? "u" : name ~ / or raise$/ ? "b" : "s")
-    rest = to
-    if (cut("[(]taken back at line [0-9]+[)]$")) said[line] = found
-    if (name == "undo") {
-        undos++
-        if (cut("takes back line [0-9]+ ")) gone[found] = line
-    }
-    if (name == "raise" || name == "undo") return
+    letters = letters (name == "raise" ? "r" : name ~ / or raise$/ ? "b" : "s")
+    if (name == "raise") return
     sub(/^(to|stays at) /, "", to)
     print edition, substr(name, 1, index(name " ", " ") - 1), to + 0 >>places
 }

@@ -4,14 +4,12 @@
 #     guarded 3        first the edition (plain, drawn, guarded or old) and N
 #     step 0 x4        four steps of processor 0
 #     raise 1          one raise of processor 1
-#     undo x2          two undos: each takes back the latest event that is left
 #
 # Numbers are decimal. Blank lines are passed over, and so is all from a # on. What comes out is accepted by lockbench,
 # whole.
 
 BEGIN {
     what = "words"
-    depth = 0
     rest = read_lines()
     # a text written by hand may end without its line feed
     if (rest != "") take(rest)
@@ -47,44 +45,22 @@ function header(words,    e) {
 }
 
 function act(words,    event, p, times) {
-    event = word[1] == "step" ? 1 : word[1] == "raise" ? 2 : word[1] == "undo" ? 3 : 0
-    if (event == 0) fail("'" word[1] "' is neither step, raise nor undo")
-    p = event == 3 ? 0 : processor(words)
-    times = count(words, event == 3 ? 2 : 3)
-    if (events + times > MOST) fail("a schedule has no more than 6,000 events")
-    events += times
-    if (event == 3) step_back(times)
-    else depth = deeper(depth, times)
-    for (; times > 0; times--) write(2, event, p)
-}
-
-function processor(words,    p) {
+    event = word[1] == "step" ? 1 : word[1] == "raise" ? 2 : 0
+    if (event == 0) fail("'" word[1] "' is neither step nor raise")
     if (words < 2) fail("the processor is missing after '" word[1] "'")
     p = whole(word[2])
     if (p >= N) fail("processor " p " is not below N, which is " N)
     if (words > 3)
         fail("'" word[4] "' is too much; a line is step or raise, a processor, and at most a count such as x4")
-    return p
-}
-
-# The count that stands there, or 1.
-function count(words, at,    times) {
-    if (words < at) return 1
-    if (at == 2 && word[at] ~ /^[0-9]/)
-        fail("'" word[at] "' is too much; an undo has no processor, and takes back the latest event that is left")
-    if (word[at] !~ /^x/) fail("'" word[at] "' is no count; a count is written such as x4")
-    if (words > at) fail("'" word[at + 1] "' is too much; a line is undo and at most a count such as x4")
-    times = whole(substr(word[at], 2))
-    if (times == 0) fail("x0 is no count; it must be 1 or more")
-    return times
-}
-
-function step_back(times) {
-    if (depth == 0) fail(refusal[14])
-    if (times > depth)
-        fail(word[2] " is too many; " depth (depth == 1 ? " event is" : " events are") " left to undo" \
-            (depth == JOURNAL ? ", as no more are kept" : ""))
-    depth -= times
+    times = 1
+    if (words == 3) {
+        if (word[3] !~ /^x/) fail("'" word[3] "' is no count; a count is written such as x4")
+        times = whole(substr(word[3], 2))
+        if (times == 0) fail("x0 is no count; it must be 1 or more")
+    }
+    if (events + times > MOST) fail("a schedule has no more than 6,000 events")
+    events += times
+    for (; times > 0; times--) write(2, event, p)
 }
 
 function whole(text) {

@@ -1,18 +1,16 @@
 # lines.awk: what all views share: document 01's limits and refusals, the lines of standard input, the pairs of a line,
 # and how a view gives up. A view sets `what`, the name of what it reads, and has a function take(text) for each whole
-# line; `number` is its number. A view that has read enough sets `enough`.
+# line; `number` is its number.
 
 BEGIN {
     HEX = "0123456789ABCDEF"
     NONE = 255
     MOST = 6000
-    LONGEST = 54009
     edition_name[0] = "plain"; edition_name[1] = "drawn"; edition_name[2] = "guarded"
     edition_name[3] = "old"
     EDITIONS = 4
     PROCESSORS = 16
-    JOURNAL = 256
-    # 10 to 13 are answers of the library or of a report, and end no log
+    # 10 and 11 are answers of the library, and end no log
     refusal[1] = "the schedule has over 54,009 bytes"
     refusal[2] = "fewer than 9 bytes are left for a wanted line, or the ninth is no line feed"
     refusal[3] = "one of the eight is not 0-9, A-F or a-f"
@@ -20,9 +18,8 @@ BEGIN {
     refusal[5] = "line 1 doesn't begin 01, or a later one 02"
     refusal[6] = "edition over 3"
     refusal[7] = "N is 0 or over 16"
-    refusal[8] = "the event is none of 1, 2, 3"
-    refusal[9] = "processor not below N, or an undo whose byte is not 0"
-    refusal[14] = "nothing left to undo"
+    refusal[8] = "event neither 1 nor 2"
+    refusal[9] = "processor not below N"
 }
 
 # Every line in turn. Answers what stands after the last line feed; `number` is then that of the line it would be.
@@ -31,7 +28,7 @@ function read_lines(    reader, line, held) {
     # follows a byte 0, so it becomes 1, which is just as wrong.
     reader = "tr '\\000' '\\001'; echo ."
     number = 0
-    while (!enough && (reader | getline line) > 0) {
+    while ((reader | getline line) > 0) {
         if (number > 0) take(held)
         number++
         held = line
@@ -71,11 +68,6 @@ function checked(text) {
 function well_formed(text, kind, digits) {
     if (length(text) != digits) fail("an " kind " line has " digits " digits, this one has " length(text))
     if (pairs(text) % 256 != 0) fail("the check does not come to 0")
-}
-
-# How many events can be undone after so many more; what falls out of the journal is gone for good.
-function deeper(depth, more) {
-    return depth + more > JOURNAL ? JOURNAL : depth + more
 }
 
 # Edition and N of an 01 line.

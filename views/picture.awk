@@ -1,10 +1,10 @@
-# picture.awk: a log or a schedule as one SVG: a lane for each processor, the lines from left to right. `from` and `to`
+# picture.awk: a log as one SVG: a lane for each processor, the lines of the log from left to right. `from` and `to`
 # name a part. Up to DETAIL lines are drawn line by line (picture_detail.awk), more as an overview
-# (picture_overview.awk). All is told by a replay, and the picture says so. In order: the part to show, what both
-# kinds need of the run, the head of the page, what is read without a run.
+# (picture_overview.awk). All is told from the log, and the picture says so. In order: the part to show, what both
+# kinds need of the run, the head of the page, a log without a run.
 
 BEGIN {
-    read_run()
+    read_log()
     DETAIL = 320
     SPAN = 1120
     LEFT = 96
@@ -13,7 +13,6 @@ BEGIN {
     if (N == 0) no_run()
     else {
         stretches()
-        voids()
         gather_overtakings()
         if (hi - lo + 1 <= DETAIL) detail()
         else overview()
@@ -51,24 +50,6 @@ function stretches(    p, k, n) {
     for (p = 0; p < N; p++) stretch_to[p, stretches_of[p]] = last
 }
 
-# Void i of processor p, from 1 to voids_of[p]: from the line of an event that is taken back later to that of its undo.
-# Those of the same processor that lie within it are taken back before it.
-function voids(    k, p, n) {
-    for (k = 2; k <= last; k++) {
-        if (!(k in undone_at)) continue
-        p = at_who[k]
-        n = voids_of[p]
-        if (n > 0 && k < void_to[p, n]) continue
-        voids_of[p] = ++n
-        void_from[p, n] = k
-        void_to[p, n] = undone_at[k]
-    }
-}
-
-function void_words(p, i) {
-    return "processor " p ", " line_or_lines(void_from[p, i], void_to[p, i] - 1) ": taken back by line " void_to[p, i]
-}
-
 function line_or_lines(a, b) {
     return a == b ? "line " a : "lines " a " to " b
 }
@@ -96,15 +77,7 @@ function about() {
     return "A lane for each of " many_of(N, "processor", "processors") ", " shown_words() ". In the whole log: " \
         many_of(joins, start_noun[edition], start_nouns[edition]) ", " many_of(entries, "entry", "entries") ", " \
         many_of(interrupts, "interrupt", "interrupts") " taken, " many_of(overtakings, "overtaking", "overtakings") \
-        undos_counted() ". " told_words()
-}
-
-function undos_counted() {
-    return undos == 0 ? "" : ", " many_of(undos, "undo", "undos")
-}
-
-function told_words() {
-    return "Told from the " what " by replaying it, not proved."
+        ". Told from the log by replaying it, not proved."
 }
 
 # Whether those passed over had taken an interrupt: the claim of order speaks only of those who have taken none.
@@ -132,9 +105,7 @@ function head(cells) {
     down = 12
     paragraph("big", picture_name(), 16, 20, 1)
     paragraph("lane", interrupt_words(), 11, 16, 1)
-    if (undos > 0) paragraph("lane", undone_words() ".", 11, 16, 1)
-    if (either > 0) paragraph("", either_words(), 11, 16, 0)
-    paragraph("", shown_words() ". " told_words(), 11, 16, 0)
+    paragraph("", shown_words() ". Told from the log by replaying it, not proved.", 11, 16, 0)
     down = legend(12, page_width - 12, down + 22, cells)
 }
 
@@ -154,13 +125,13 @@ function end_mark(high) {
         shape("end", straight(strip_right, lanes_top, strip_right, lanes_top + high), "line " refused_at ": " ending)
 }
 
-# ---- without a run
+# ---- a log without a run
 
 function no_run(    s) {
     down = 12
     page_width = 680
     s = "no run: " (refused_at > 0 ? "line " refused_at " " : "") ending
     paragraph("big", s, 16, 20, 1)
-    paragraph("", "Told from the " what ", not proved.", 11, 18, 0)
-    print_svg(page_width, down + 14, s, "Told from the " what ", not proved.", style(1))
+    paragraph("", "Told from the log, not proved.", 11, 18, 0)
+    print_svg(page_width, down + 14, s, "Told from the log, not proved.", style(1))
 }

@@ -39,7 +39,6 @@ function strip(a, b,    p, k) {
     grid()
     frames("blush", 11.5)
     for (p = 0; p < N; p++) lane(p)
-    for (p = 0; p < N; p++) void_lane(p)
     frames("band", 11.5)
     for (k = a; k <= b; k++) if (k in at_who) happening(k)
     for (k = a; k <= b; k++) if (k in over_many) overtaking(k)
@@ -82,38 +81,24 @@ function lane(p,    i, y, x1, x2) {
     }
 }
 
-# The parts of the lane that were taken back.
-function void_lane(p,    i) {
-    for (i = 1; i <= voids_of[p]; i++)
-        if (void_to[p, i] >= strip_lo && void_from[p, i] <= strip_hi)
-            void_mark(most_of(LEFT, x_of(void_from[p, i])), least(strip_right, x_of(void_to[p, i])), lane_y(p),
-                void_words(p, i))
-}
-
 # ---- events
 
 # Line k as a log in words has it.
 function line_words(k,    s) {
-    s = "line " k ": processor " at_who[k] ", " at_act[k] ", " \
-        (at_from[k] == at_to[k] ? "at " : (k in takes_back) ? "back to " : "to ") at_to[k] " " place_name[at_to[k]]
-    return s (note_words(k) == "" ? "" : ", " note_words(k)) (queued[edition] ? "; queue: " at_queue[k] : "")
+    s = "line " k ": processor " at_who[k] ", " at_act[k] ", " (at_from[k] == at_to[k] ? "at " : "to ") at_to[k] " " \
+        place_name[at_to[k]]
+    return s (at_note[k] == "" ? "" : ", " at_note[k]) (queued[edition] ? "; queue: " at_queue[k] : "")
 }
 
 # The whole place of the event answers a hover, as a tick is too thin for it.
-function happening(k,    x, y) {
+function happening(k,    x, y, said) {
     x = x_of(k)
     y = lane_y(at_who[k])
+    said = "line " k ": processor " at_who[k] " " at_note[k]
     open_group(line_words(k))
     shape("hover", box(x - col / 2, y - lane_high / 2, col, lane_high))
     event_tick(x, y)
     close_group()
-    if (k in takes_back) undo_mark(x, y, line_words(k))
-    if (k in undone_at) add("<g class=\"gone\">")
-    marks_of(k, x, y, "line " k ": processor " at_who[k] " " note_words(k))
-    if (k in undone_at) close_group()
-}
-
-function marks_of(k, x, y, said) {
     if (at_act[k] == "raise") request_mark(x, y, request_words(k))
     if (at_pass[k] != "") arrow(at_pass[k], x, lane_y(at_giver[k]), lane_y(at_taker[k]), said)
     if (!(k in at_join) && !(k in at_entry)) return
@@ -124,7 +109,7 @@ function marks_of(k, x, y, said) {
 }
 
 function request_words(k) {
-    return "line " k ": interrupt request for processor " at_who[k] (note_words(k) == "" ? "" : ", " note_words(k))
+    return "line " k ": interrupt request for processor " at_who[k] (at_note[k] == "" ? "" : ", " at_note[k])
 }
 
 # Where that line is shown; no line is 0.

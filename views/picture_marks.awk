@@ -38,14 +38,11 @@ function style(wide) {
         ".over{stroke:#111;stroke-width:6}.overcore{stroke:#e00000;stroke-width:2.8}\n" \
         ".overentry{fill:#e00000;stroke:#111;stroke-width:2}\n" \
         ".thin{stroke:#c00000;stroke-width:1.6}.lead{stroke:#c00000;stroke-dasharray:2 2}\n" \
-        (lost_seen ? ".lost{fill:url(#bars);stroke:#111;stroke-width:1.6}\n" : "") \
-        (undos ? ".gone{opacity:0.4}.fade{fill:#fff;fill-opacity:0.6}.under{stroke:#fff;stroke-width:4}\n" \
-        ".void{stroke:#111;stroke-width:1.2}.undo{fill:#fff;stroke:#111;stroke-width:1.5}\n" \
-        ".cells .under{stroke-width:6}.cells .void{stroke-width:1.2}\n" : "") "</style>\n<defs>\n" \
+        (lost_line ? ".lost{fill:url(#bars);stroke:#111;stroke-width:1.6}\n" : "") "</style>\n<defs>\n" \
         pattern("hatch", 6, "<path d=\"M-1 1l2-2M0 6l6-6M5 7l2-2\" stroke=\"#24455f\" stroke-width=\"2\"/>") \
         pattern("dots", 5, "<circle cx=\"2.5\" cy=\"2.5\" r=\"0.8\" fill=\"#333\"/>") \
         pattern("rules", 4, "<path d=\"M0 2h4\" stroke=\"#777\" stroke-width=\"0.8\"/>") \
-        (lost_seen ? pattern("bars", 8, "<path d=\"M3 0v8\" stroke=\"#b00000\" stroke-width=\"4\"/>") : "") "</defs>"
+        (lost_line ? pattern("bars", 8, "<path d=\"M3 0v8\" stroke=\"#b00000\" stroke-width=\"4\"/>") : "") "</defs>"
 }
 
 function pattern(id, side, ink,    square) {
@@ -86,27 +83,6 @@ function request_mark(x, y, said) {
 
 function event_tick(x, y) {
     shape("tick", straight(x, y + 9, x, y + 12.5))
-}
-
-# ---- what is taken back
-
-# A stretch of a lane that is taken back later: it fades, and a zigzag goes through it.
-function void_mark(x1, x2, y, said) {
-    open_group(said)
-    shape("fade", box(x1, y - 9, x2 - x1, 18))
-    shape("void", zigzag(x1, x2, y))
-    close_group()
-}
-
-# The share of a cell of the overview that is taken back.
-function void_share(x1, x2, y) {
-    shape("under", straight(x1, y, x2, y))
-    shape("void", zigzag(x1, x2, y))
-}
-
-# The undo itself, an arrow that points back.
-function undo_mark(x, y, said) {
-    shape("undo", "M" num(x - 6) " " num(y) "l6 -5.5v3h6v5h-6v3z", said)
 }
 
 # ---- arrows
@@ -167,7 +143,6 @@ function legend(left, right, y, cells) {
     legend_y = y
     legend_phases(cells ? "area" : "bar")
     if (!cells) legend_marks()
-    if (undos) legend_undos(cells)
     if (lost_line) sample("losing", "", "loses the lock", 22)
     sample("overentry", "", "enters and overtakes" (cells ? " (a number: so many times in the cell)" : ""), 18)
     sample("frame", "", "is passed over, from its " start_noun[edition] " on", 32)
@@ -179,7 +154,7 @@ function legend_phases(kind,    k, many, order) {
     many = split(queued[edition] ? "at rest,on the way,waiting,inside,in service,handing on" : \
         "at rest,trying,inside,in service,freeing", order, ",")
     # only drawn has it, and few of its logs
-    if (lost_seen) order[++many] = "lost"
+    if (lost_line) order[++many] = "lost"
     for (k = 1; k <= many; k++) sample(kind, order[k], order[k], 34)
     legend_break()
 }
@@ -194,12 +169,6 @@ function legend_marks(    k) {
     legend_break()
     if (!queued[edition]) return
     for (k = 1; k <= PASSES; k++) sample("arrow", pass_named[k], "the lock is " pass_named[k], 14)
-    legend_break()
-}
-
-function legend_undos(cells) {
-    if (!cells) sample("undo", "", "an undo, of this processor's event", 16)
-    sample(cells ? "share" : "void", "", cells ? "taken back later (its share of the cell)" : "taken back later", 34)
     legend_break()
 }
 
@@ -218,9 +187,6 @@ function sample(kind, which, words, wide,    x, y) {
     if (kind == "entry" || kind == "both") entry_mark(x + 7, y, 5.5, "entry")
     if (kind == "overentry") entry_mark(x + 9, y, 8.5, "overentry")
     if (kind == "losing") lost_mark(x + 11, y)
-    if (kind == "undo") undo_mark(x + 7, y)
-    if (kind == "void") void_mark(x, x + wide, y)
-    if (kind == "share") void_share(x, x + wide, y)
     if (kind == "request") request_mark(x + 6, y + 8)
     if (kind == "tick") event_tick(x + 4, y - 10)
     if (kind == "arrow") arrow(which, x + 6, y - 13, y + 16)

@@ -65,29 +65,12 @@ function fill_cells(    p, i, c, a, b, k) {
             for (c = cell_of(a); c <= cell_of(b); c++)
                 spent[p, c, stretch_phase[p, i]] += least(b, cell_to(c)) - most_of(a, cell_from(c)) + 1
         }
-    fill_voids()
     for (k = lo; k <= hi; k++) {
         if (!(k in at_who)) continue
-        if (k in takes_back) tally("undos", at_who[k], cell_of(k))
-        if (k in undone_at) tally("taken back", at_who[k], cell_of(k))
-        # what is taken back counts nowhere else
-        if (k in undone_at) continue
         if (k in at_join) tally("joins", at_who[k], cell_of(k))
         if (k in at_entry) tally("entries", at_who[k], cell_of(k))
         if (k in at_interrupt) tally("interrupts", at_who[k], cell_of(k))
     }
-}
-
-# How many lines of the cell lie in a void of the processor.
-function fill_voids(    p, i, c, a, b) {
-    for (p = 0; p < N; p++)
-        for (i = 1; i <= voids_of[p]; i++) {
-            a = most_of(lo, void_from[p, i])
-            b = least(hi, void_to[p, i] - 1)
-            if (a > b) continue
-            for (c = cell_of(a); c <= cell_of(b); c++)
-                spent[p, c, "void"] += least(b, cell_to(c)) - most_of(a, cell_from(c)) + 1
-        }
 }
 
 function tally(kind, p, c) {
@@ -134,8 +117,6 @@ function share_cell(p, c, y,    i, x, wide, high, part, foot) {
         foot -= part
         area(phase_named[i], x, foot, wide, part)
     }
-    part = spent[p, c, "void"] / (cell_to(c) - cell_from(c) + 1)
-    if (part > 0) void_share(x, x + most_of(8, wide * part), y - lane_high / 2 + 7)
     close_group()
 }
 
@@ -147,14 +128,7 @@ function share_words(p, c,    i, s, n) {
     return "processor " p ", " line_or_lines(cell_from(c), cell_to(c)) ": " s "; " \
         many_of(tallied["joins", p, c] + 0, start_noun[edition], start_nouns[edition]) ", " \
         many_of(tallied["entries", p, c] + 0, "entry", "entries") ", " \
-        many_of(tallied["interrupts", p, c] + 0, "interrupt", "interrupts") share_void_words(p, c)
-}
-
-function share_void_words(p, c) {
-    if (undos == 0) return ""
-    return ", " many_of(tallied["undos", p, c] + 0, "undo", "undos") ", " \
-        many_of(tallied["taken back", p, c] + 0, "event", "events") " taken back later; of the lines " \
-        spent[p, c, "void"] + 0 " are taken back"
+        many_of(tallied["interrupts", p, c] + 0, "interrupt", "interrupts")
 }
 
 # ---- overtakings
@@ -184,10 +158,6 @@ function number_rows() {
     number_row("joins", start_nouns[edition])
     number_row("entries", "entries")
     number_row("interrupts", "interrupts")
-    if (undos > 0) {
-        number_row("undos", "undos")
-        number_row("taken back", "taken back")
-    }
     down -= 8
 }
 

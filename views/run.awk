@@ -1,46 +1,25 @@
-# run.awk: what a replayed run shows of the queue: joins, entries, interrupts taken, who waits, who was passed over, and
-# whether the lock was lost. The words are those of docs/RANDOM.md, 'The verdict in numbers'. In order: what a line is,
-# with the queue after it; joins and entries, counted; the order.
+# run.awk: what a replayed log shows of the queue: joins, entries, interrupts taken, who waits, who was passed over, and
+# whether the lock was lost. The words are those of docs/RANDOM.md, 'The verdict in numbers'. In order: joins and
+# entries, the queue, the order.
 # The old edition has no joins: there the first try takes the place of the join, here and in every view.
 #
-# What is left of line k: at_queue, and whether k is in at_join, at_entry, at_interrupt. These are of every line, also
-# of those taken back later. All else is of the events not undone: of join j, from 1 to joins,
+# What is left of line k: at_queue, and whether k is in at_join, at_entry, at_interrupt. Of join j, from 1 to joins:
 # join_who and join_line; join_end (entered, again or open) and join_end_line; join_waited, the entries of others in its
 # stretch; join_interrupt, the line of the first interrupt taken in it, or 0; join_passed, the number of overtakings,
 # and of each of them, i from 1: passer_who[j, i], passer_joined[j, i], passer_entered[j, i].
 #
-# And lost_line, the line at which the lock is lost, or 0. It is lost once: who loses it has it for ever, unless an undo
-# takes that back. lost_seen says whether any line has lost it.
+# And lost_line, the line at which the lock is lost, or 0. It is lost once: who loses it has it for ever.
 
 BEGIN {
-    joins = entries = interrupts = overtakings = standing = lost_line = lost_seen = 0
-}
-
-# ---- what a line is
-
-# The fresh run. Where a log is read once more, what was told of it before is gone.
-function nobody_joined(    p) {
-    for (p = 0; p < N; p++) {
-        came_from[p] = REST
-        joined_at[p] = waits_since[p] = 0
-    }
-    standing = lost_line = lost_seen = 0
-    line_up_text = ""
-    split("", at_join)
-    split("", at_entry)
-    split("", at_interrupt)
+    joins = entries = interrupts = overtakings = standing = lost_line = 0
 }
 
 # An event of processor p that stood at `from` has been carried out.
 function follow(p, from, stepped) {
-    if (stepped && (from == SWAP || from == TRY && first_try(p))) {
-        at_join[number] = 1
-        joined_at[p] = waits_since[p] = number
-        stand_last(p)
-    }
-    if (stepped && (from in service_of) && now["place", p] == service_of[from]) at_interrupt[number] = 1
-    if (stepped && from != INSIDE && now["place", p] == INSIDE) goes_in(p)
-    if (stepped && from != LOST && now["place", p] == LOST) lost_line = lost_seen = number
+    if (stepped && (from == SWAP || from == TRY && first_try(p))) join(p)
+    if (stepped && (from in service_of) && now["place", p] == service_of[from]) interrupt(p)
+    if (stepped && from != INSIDE && now["place", p] == INSIDE) enter(p)
+    if (stepped && from != LOST && now["place", p] == LOST) lost_line = number
     if (stepped) came_from[p] = from
     if (queued[edition]) at_queue[number] = queue()
 }
@@ -50,48 +29,63 @@ function first_try(p) {
     return came_from[p] == REST
 }
 
-function goes_in(p,    q, passed_over) {
+function join(p) {
+    close_stretch(p, "again")
+    joins++
+    at_join[number] = 1
+    join_who[joins] = p
+    join_line[joins] = latest[p] = number
+    join_end[joins] = "open"
+    join_end_line[joins] = join_waited[joins] = join_interrupt[joins] = join_passed[joins] = 0
+    open[p] = joins
+    stand_last(p)
+}
+
+function close_stretch(p, how) {
+    if (!(p in open)) return
+    join_end[open[p]] = how
+    join_end_line[open[p]] = number
+    delete open[p]
+}
+
+function interrupt(p) {
+    interrupts++
+    at_interrupt[number] = 1
+    if (join_interrupt[open[p]] == 0) join_interrupt[open[p]] = number
+}
+
+function enter(p,    q, j, passed_over) {
+    entries++
     at_entry[number] = 1
-    waits_since[p] = 0
-    for (q = 0; q < N; q++)
-        if (is_passed(q, p)) passed_over = passed_over (passed_over == "" ? "" : " and ") q
+    close_stretch(p, "entered")
+    for (q = 0; q < N; q++) {
+        if (!(q in open)) continue
+        j = open[q]
+        join_waited[j]++
+        if (latest[p] < join_line[j]) continue
+        overtake(j, p)
+        passed_over = passed_over (passed_over == "" ? "" : " and ") q
+    }
     if (passed_over != "") at_note[number] = at_note[number] ", passing over " passed_over
 }
 
-# Whether an entry of processor p passes q over.
-function is_passed(q, p) {
-    return waits_since[q] > 0 && joined_at[p] > waits_since[q]
+function overtake(j, p,    i) {
+    overtakings++
+    i = ++join_passed[j]
+    passer_who[j, i] = p
+    passer_joined[j, i] = latest[p]
+    passer_entered[j, i] = number
 }
 
-# For the undo of this line, and that undo.
-function remember_standing(p) {
-    held_standing[number] = joined_at[p] " " waits_since[p] " " came_from[p] " " lost_line
-    held_line_up[number] = line_up_text
-}
-
-function stand_as_before(k, p,    was) {
-    split(held_standing[k], was, " ")
-    joined_at[p] = was[1] + 0
-    waits_since[p] = was[2] + 0
-    came_from[p] = was[3] + 0
-    lost_line = was[4] + 0
-    line_up_text = held_line_up[k]
-    standing = split(line_up_text, line_up, " ")
-    if (queued[edition]) at_queue[number] = queue()
-}
+# ---- the queue
 
 # Processor p now has the latest join; line_up has all who ever joined, the earliest of the latest joins first.
 function stand_last(p,    k, kept) {
     kept = 0
-    line_up_text = ""
     for (k = 1; k <= standing; k++)
-        if (line_up[k] != p) {
-            line_up[++kept] = line_up[k]
-            line_up_text = line_up_text line_up[k] " "
-        }
+        if (line_up[k] != p) line_up[++kept] = line_up[k]
     standing = kept + 1
     line_up[standing] = p
-    line_up_text = line_up_text p
 }
 
 # Who is inside (starred), lost (!) or handing on, a bar, and who waits, in the order of the latest joins; in service in
@@ -109,60 +103,6 @@ function queue(    k, p, where, inside, handing, waiting) {
     handing = inside handing
     if (handing waiting == "") return "-"
     return (handing == "" ? "-" : substr(handing, 2)) (waiting == "" ? "" : " |" waiting)
-}
-
-# ---- joins and entries, counted
-
-# Of the events not undone, once all of them are known.
-function count_run(    k) {
-    for (k = 2; k <= last; k++) {
-        if ((k in undone_at) || (k in takes_back)) continue
-        number = k
-        if (k in at_join) join(at_who[k])
-        if (k in at_interrupt) interrupt(at_who[k])
-        if (k in at_entry) enter(at_who[k])
-    }
-}
-
-function join(p) {
-    close_stretch(p, "again")
-    joins++
-    join_who[joins] = p
-    join_line[joins] = latest[p] = number
-    join_end[joins] = "open"
-    join_end_line[joins] = join_waited[joins] = join_interrupt[joins] = join_passed[joins] = 0
-    open[p] = joins
-}
-
-function close_stretch(p, how) {
-    if (!(p in open)) return
-    join_end[open[p]] = how
-    join_end_line[open[p]] = number
-    delete open[p]
-}
-
-function interrupt(p) {
-    interrupts++
-    if (join_interrupt[open[p]] == 0) join_interrupt[open[p]] = number
-}
-
-function enter(p,    q, j) {
-    entries++
-    close_stretch(p, "entered")
-    for (q = 0; q < N; q++) {
-        if (!(q in open)) continue
-        j = open[q]
-        join_waited[j]++
-        if (latest[p] > join_line[j]) overtake(j, p)
-    }
-}
-
-function overtake(j, p,    i) {
-    overtakings++
-    i = ++join_passed[j]
-    passer_who[j, i] = p
-    passer_joined[j, i] = latest[p]
-    passer_entered[j, i] = number
 }
 
 # ---- the order that plain and guarded keep
@@ -187,7 +127,7 @@ function judge_order(    j, i) {
 # In words: whom an entry of processor p would pass over.
 function would_pass(p,    q, list) {
     for (q = 0; q < N; q++)
-        if (q != p && is_passed(q, p))
-            list = list (list == "" ? "" : ", ") q " (" start_past[edition] " at line " waits_since[q] ")"
+        if (q != p && (q in open) && (p in latest) && latest[p] > join_line[open[q]])
+            list = list (list == "" ? "" : ", ") q " (" start_past[edition] " at line " join_line[open[q]] ")"
     return list == "" ? "" : "; the entry that it shows would pass over " list
 }

@@ -3,7 +3,6 @@
 
 BEGIN {
     what = "schedule"
-    depth = 0
     if (read_lines() != "") fail("the last line has no line feed")
     if (number == 1) fail("the schedule is empty")
     print edition_name[edition] " " N
@@ -21,17 +20,11 @@ function take(text,    kind) {
     else act(v[2], v[3])
 }
 
-function act(event, p) {
-    if (event < 1 || event > 3) fail(refusal[8])
-    if (event < 3 && p >= N) fail("processor " p " is not below N, which is " N)
-    if (event == 3 && p != 0) fail("an undo has 00 as its third pair, this one has " sprintf("%02X", p))
-    if (event == 3 && depth == 0) fail(refusal[14])
+function act(event, p,    words) {
+    if (event != 1 && event != 2) fail(refusal[8])
+    if (p >= N) fail("processor " p " is not below N, which is " N)
     if (number > MOST + 1) fail("a schedule has no more than 6,000 events")
-    depth = event == 3 ? depth - 1 : deeper(depth, 1)
-    tell(event == 3 ? "undo" : (event == 1 ? "step " : "raise ") p)
-}
-
-function tell(words) {
+    words = (event == 1 ? "step " : "raise ") p
     if (runs == 0 || run_of[runs] != words) run_of[++runs] = words
     times[runs]++
 }

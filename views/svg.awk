@@ -82,13 +82,6 @@ function triangle(x, y, way, half, long) {
     return "M" num(x) " " num(y) "l" num(-half) " " num(-way * long) "h" num(2 * half) "z"
 }
 
-# A line that goes up and down, from x1 to x2 and at least one tooth long.
-function zigzag(x1, x2, y,    data, x) {
-    data = "M" num(x1) " " num(y)
-    for (x = x1; x == x1 || x + 8 <= x2; x += 8) data = data "l2 -3l4 6l2 -3"
-    return data (x < x2 ? "H" num(x2) : "")
-}
-
 # ---- pieces
 
 function add(piece) {

@@ -1,5 +1,5 @@
 # verdict.awk: who waited how long, who was passed over by whom, and whether the lock was lost, told from a replayed
-# run. It ends every run in words; verdict_main.awk prints it alone. In order: the table of joins, the sentences, the
+# log. It ends every log in words; verdict_main.awk prints it alone. In order: the table of joins, the sentences, the
 # summary in a few words.
 
 function verdict(    j) {
@@ -22,25 +22,11 @@ function verdict(    j) {
         if (join_passed[j] > 0) print sentence(j)
     if (overtakings == 0) print "nobody was passed over"
     else print "\n" claim()
-    if (undos > 0) print "\n" undone_words()
-    if (either > 0) print either_words()
-}
-
-# Every undo takes back one event.
-function undone_words() {
-    return 2 * undos " of the " events " accepted lines count nowhere: " (undos == 1 ? "1 undo, and the event that it" : \
-        undos " undos, and the " undos " events that they") " take" (undos == 1 ? "s" : "") " back"
-}
-
-# Of a log that is read with undos: lines at which an undo, and a step or a raise, give what stands there.
-function either_words() {
-    return "A log does not say which lines are undos; at " (either == 1 ? "line " : either " lines, first at line ") \
-        first_either ", either fits. The schedule says it."
 }
 
 # Ends every view in words.
 function closing() {
-    print "\nAll of this is told from the " what ", by replaying it. None of it is proved."
+    print "\nAll of this is told from the log, by replaying it. None of it is proved."
 }
 
 function join_table(    j) {

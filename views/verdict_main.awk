@@ -1,7 +1,7 @@
 # verdict_main.awk: the verdict of a log alone.
 
 BEGIN {
-    read_run()
+    read_log()
     verdict()
     closing()
 }

@@ -1,8 +1,8 @@
-# words.awk: a log or a schedule in words, one line for each of its lines, and the verdict at the end. Where a part is
-# asked for, the other lines of events are left out; the verdict is of the whole.
+# words.awk: a log in words, one line for each of its lines, and the verdict at the end. Where a part is asked for, the
+# other lines of events are left out; the verdict is of the whole log.
 
 BEGIN {
-    read_run()
+    read_log()
     take_part()
     if (N > 0) printf "%4d  edition %d (%s), N %d: %s\n", 1, edition, edition_name[edition], N, all_processors()
     if (events > 0) event_table()
@@ -35,14 +35,13 @@ function event_table(    k) {
         cell(at_flag[k] ? "set" : "-")
         cell(at_guard[k] ? "set" : "-")
         if (queued[edition]) cell(at_queue[k])
-        cell(note_words(k))
+        cell(at_note[k])
     }
     print_table("rrllllllll" (queued[edition] ? "l" : ""))
 }
 
 function place_words(k,    how) {
     how = at_from[k] != at_to[k] ? "to " : at_act[k] == "raise" ? "at " : "stays at "
-    if (k in takes_back) how = at_from[k] != at_to[k] ? "back to " : "at "
     return how at_to[k] " " place_name[at_to[k]]
 }
 
@@ -53,7 +52,7 @@ function none_or(x) {
 function notes(    k, alike) {
     if (events > 0 && queued[edition])
         print "\nqueue: *inside or handing on | who waits, in the order of the latest joins; [in service]" \
-            (lost_seen ? "; !lost with the lock" : "")
+            (lost_line ? "; !lost with the lock" : "")
     if (events > 0 && !queued[edition]) print "\nL: who has the lock; this edition has no queue"
     for (k = first_shown; k <= last_shown; k++)
         if (at_act[k] ~ / or raise$/) alike = 1

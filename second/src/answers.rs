@@ -3,10 +3,8 @@
 
 use crate::cell::Cell;
 use crate::coverage::{self, Counts, SIDES};
-use crate::drawn;
 use crate::edges::Edges;
 use crate::handed::{self, Trial, TRIALS};
-use crate::journal::REFUSED_UNDO;
 use crate::lock::*;
 use crate::places::{self, Tried};
 use crate::report::Report;
@@ -38,7 +36,7 @@ const CASES: &[Case] = &[
         matches!(row.place, LINK | CLAIM) && row.pred == p
     }),
     step("steps that used succ, and it was the processor itself", |_, row, p| {
-        drawn::needs(row.place, Cell::Succ) && row.succ == p
+        handed::needs(row.place, Cell::Succ) && row.succ == p
     }),
     step("steps at try, and L was the processor itself", |lock, row, p| row.place == TRY && lock.tail == p),
     step("steps at free, and L was another or none", |lock, row, p| row.place == FREE && lock.tail != p),
@@ -61,12 +59,12 @@ const CASES: &[Case] = &[
 
 /// What the trials met.
 struct Answers {
-    /// Trials by whether the state is not sound, which kind the event is of, and whether the processor is wrong.
-    given: [[[u64; 2]; 3]; 2],
+    /// Trials by whether the state is not sound, the event is wrong, and the processor is.
+    given: [[[u64; 2]; 2]; 2],
     raises: u64,
     steps: u64,
     cases: [u64; CASES.len()],
-    /// Answers with another refusal than the documents want.
+    /// Answers with another refusal than document 01 wants.
     other: u64,
     /// Refused events that give another state back.
     changed: u64,
@@ -78,7 +76,7 @@ struct Answers {
 impl Answers {
     fn new() -> Answers {
         Answers {
-            given: [[[0; 2]; 3]; 2],
+            given: [[[0; 2]; 2]; 2],
             raises: 0,
             steps: 0,
             cases: [0; CASES.len()],
@@ -92,8 +90,7 @@ impl Answers {
     fn count(&mut self, trial: &Trial, wanted: u8) {
         let (refusal, after) = trial.answer();
         let unsound = wanted == REFUSED_STATE;
-        let kind = if trial.is_undo() { 1 } else { 2 * !trial.good_event() as usize };
-        self.given[unsound as usize][kind][!trial.good_processor() as usize] += 1;
+        self.given[unsound as usize][!trial.good_event() as usize][!trial.good_processor() as usize] += 1;
         if refusal != wanted {
             self.other += 1;
         } else if refusal == 0 {
@@ -118,21 +115,19 @@ impl Answers {
         self.counts.step(&trial.lock, after, p as usize);
     }
 
-    /// Which of the refusals comes first.
+    /// Which of the three refusals comes first.
     fn print_order(&self, report: &mut Report) {
         const SOUND: [&str; 2] = ["sound", "not sound"];
-        const EVENTS: [&str; 3] = ["good", "undo", "wrong"];
         const GOOD: [&str; 2] = ["good", "wrong"];
         report.line("state      event  processor  answer   times");
         for (s, state) in SOUND.iter().enumerate() {
-            for (e, event) in EVENTS.iter().enumerate() {
+            for (e, event) in GOOD.iter().enumerate() {
                 for (p, processor) in GOOD.iter().enumerate() {
                     let count = self.given[s][e][p];
                     let answer = match (s, e, p) {
                         (1, _, _) => REFUSED_STATE,
-                        (_, 2, _) => REFUSED_EVENT,
+                        (_, 1, _) => REFUSED_EVENT,
                         (_, _, 1) => REFUSED_PROCESSOR,
-                        (_, 1, _) => REFUSED_UNDO,
                         _ => 0,
                     };
                     let words = format!("{:<11}{:<7}{:<11}{:>6}", state, event, processor, answer);
@@ -156,7 +151,7 @@ impl Answers {
             report.demand(number, LEAST, words);
         }
         let must_not = [
-            ("answers with another refusal than the documents want", self.other),
+            ("answers with another refusal than document 01 wants", self.other),
             ("refused, and another state comes back", self.changed),
             ("accepted, and the state that comes back is not sound", self.unsound),
         ];
@@ -193,7 +188,7 @@ fn print_places(report: &mut Report) {
     for edition in places::EVERY_EDITION {
         let tried = Tried::of(edition);
         for place in places::EVERY_PLACE {
-            let has = edition <= LAST_EDITION && drawn::edition_has(edition, place);
+            let has = edition <= LAST_EDITION && handed::edition_has(edition, place);
             had += tried.all(place, 0) as u64;
             lacked += tried.all(place, REFUSED_STATE) as u64;
             let (refusal, words) = if has { (0, "had") } else { (REFUSED_STATE, "lacked") };

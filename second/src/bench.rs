@@ -1,7 +1,6 @@
 //! The bench: the bytes of a schedule in, the bytes of its log out.
 
 use crate::frame;
-use crate::journal::{Done, Journaled};
 use crate::lock::{Lock, Row};
 
 /// The most bytes of a schedule: 6,001 lines.
@@ -12,7 +11,6 @@ pub const REFUSED_SCHEDULE: u8 = 1;
 /// What happened in one accepted event.
 pub struct Happening<'a> {
     pub event: u8,
-    /// Of an undo, that of the event undone.
     pub processor: u8,
     pub entry: bool,
     pub before: &'a Lock,
@@ -46,7 +44,7 @@ pub fn run<W: FnMut(&Happening)>(schedule: &[u8], out: &mut Vec<u8>, mut watch: 
     }
 
     let [first, edition, n, _] = frame::read(schedule, 1).map_err(|refusal| (refusal, 1))?;
-    let mut state = Journaled::new(Lock::fresh(edition, n).map_err(|refusal| (refusal, 1))?);
+    let mut lock = Lock::fresh(edition, n).map_err(|refusal| (refusal, 1))?;
     // Request [3]: line 1 as the writer gives it, and not the bytes that were read.
     frame::write(out, &[first, edition, n]);
 
@@ -56,10 +54,10 @@ pub fn run<W: FnMut(&Happening)>(schedule: &[u8], out: &mut Vec<u8>, mut watch: 
     while !left.is_empty() {
         line += 1;
         let [_, event, processor, _] = frame::read(left, 2).map_err(|refusal| (refusal, line))?;
-        let before = state.lock;
-        let Done { processor, entry } = state.event(event, processor).map_err(|refusal| (refusal, line))?;
-        write_row(out, &state.lock, processor, entry);
-        watch(&Happening { event, processor, entry, before: &before, after: &state.lock });
+        let before = lock;
+        let entry = lock.event(event, processor).map_err(|refusal| (refusal, line))?;
+        write_row(out, &lock, processor, entry);
+        watch(&Happening { event, processor, entry, before: &before, after: &lock });
         count += 1;
         left = &left[frame::LINE..];
     }

@@ -3,7 +3,6 @@
 
 use crate::bench::REFUSED_SCHEDULE;
 use crate::fates::{self, Shown};
-use crate::journal::REFUSED_UNDO;
 use crate::lists::{self, Reported, LISTS};
 use crate::lock::*;
 use crate::report::Report;
@@ -20,13 +19,13 @@ const LENT: usize = 18;
 const LAST: u64 = u32::MAX as u64;
 
 /// A report with what was wanted of it.
-pub struct Seen<'a> {
-    pub reported: &'a Reported,
-    pub wanted: &'a Wanted,
+struct Seen<'a> {
+    reported: &'a Reported,
+    wanted: &'a Wanted,
 }
 
 impl Seen<'_> {
-    pub fn refusal(&self) -> u8 {
+    fn refusal(&self) -> u8 {
         self.reported.answer.refusal
     }
 
@@ -36,10 +35,10 @@ impl Seen<'_> {
 
     /// Whether the schedule itself is refused.
     fn own(&self) -> bool {
-        (REFUSED_SCHEDULE..=REFUSED_PROCESSOR).contains(&self.refusal()) || self.by(REFUSED_UNDO)
+        (REFUSED_SCHEDULE..=REFUSED_PROCESSOR).contains(&self.refusal())
     }
 
-    pub fn accepted(&self) -> bool {
+    fn accepted(&self) -> bool {
         self.by(0)
     }
 
@@ -53,7 +52,7 @@ impl Seen<'_> {
     }
 
     fn edition_is(&self, edition: u8) -> bool {
-        self.wanted.run.as_ref().map_or(false, |run| run.edition == edition)
+        self.wanted.run.as_ref().is_some_and(|run| run.edition == edition)
     }
 
     /// Whether 13 would be given, were it not for other refusals.
@@ -72,7 +71,7 @@ impl Seen<'_> {
     }
 
     /// Whether the accepted events charge something.
-    pub fn charging(&self) -> bool {
+    fn charging(&self) -> bool {
         self.highest() > 0
     }
 
@@ -114,13 +113,9 @@ impl Seen<'_> {
         self.reported.after == self.wanted.table(&self.reported.before, &self.reported.answer)
     }
 
-    pub fn as_wanted(&self) -> bool {
-        self.answer_good() && self.table_good() && self.rows_good()
-    }
-
     /// Whether some stretch of the run has entries of others in it, so that they could be charged.
     fn waited(&self) -> bool {
-        self.wanted.run.as_ref().map_or(false, |run| run.stretches.iter().any(|stretch| !stretch.entries.is_empty()))
+        self.wanted.run.as_ref().is_some_and(|run| run.stretches.iter().any(|stretch| !stretch.entries.is_empty()))
     }
 }
 
@@ -170,7 +165,7 @@ struct Counts {
     kinds: [u64; KINDS.len()],
     wrong: [u64; WRONG.len()],
     /// By the schedule's own refusal.
-    own: [u64; REFUSED_UNDO as usize + 1],
+    own: [u64; REFUSED_PROCESSOR as usize + 1],
     /// By the number of rows lent: refused by 13, and accepted.
     short: [u64; LENT],
     enough: [u64; LENT],
@@ -183,7 +178,7 @@ impl Counts {
         Counts {
             kinds: [0; KINDS.len()],
             wrong: [0; WRONG.len()],
-            own: [0; REFUSED_UNDO as usize + 1],
+            own: [0; REFUSED_PROCESSOR as usize + 1],
             short: [0; LENT],
             enough: [0; LENT],
             editions: [Shown::default(); EDITIONS.len()],

@@ -1,7 +1,6 @@
 //! Coverage: how often the random schedules take each side of each test in the step table, and each refusal.
 
 use crate::bench;
-use crate::journal::REFUSED_UNDO;
 use crate::lock::*;
 use crate::random;
 
@@ -159,15 +158,15 @@ pub fn print() -> (String, bool) {
     // A raise has no place; it is counted by whether the flag was clear or already set.
     let mut raises = [[0u64; 2]; EDITIONS.len()];
     let mut raises_at = [0u64; PLACES.len()];
-    let mut refusals = [0u64; REFUSED_UNDO as usize + 1];
-    let mut refusals_old = refusals;
-    let mut refusals_lowered = refusals;
+    let mut refusals = [0u64; 10];
+    let mut refusals_old = [0u64; 10];
+    let mut refusals_lowered = [0u64; 10];
     for i in 0..random::SCHEDULES {
         let (_, refusal) = bench::follow(&random::schedule(i), |h| {
             let p = h.processor as usize;
             if h.event == STEP {
                 counts.step(h.before, h.after, p);
-            } else if h.event == RAISE {
+            } else {
                 raises[h.before.edition as usize][h.before.rows[p].flag as usize] += 1;
                 raises_at[h.before.rows[p].place as usize] += 1;
             }
@@ -207,7 +206,7 @@ pub fn print() -> (String, bool) {
             line(label, raises_at[place as usize], None);
         }
     }
-    for refusal in 1..=REFUSED_PROCESSOR as usize {
+    for refusal in 1..refusals.len() {
         line(format!("refusal {:<39}", refusal), refusals[refusal], None);
         line(format!("refusal {}{:<38}", refusal, ", of those made for old"), refusals_old[refusal], None);
         let lowered = ", of those in lower or mixed case";

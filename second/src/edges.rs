@@ -3,9 +3,7 @@
 //! The tests are document 01's sentence, said apart from sound.rs. The tables of the counts stand in turns.rs.
 
 use crate::cell::{Cell, PRIVATE_CELLS, ROW_CELLS};
-use crate::drawn::{edition_has, needs};
-use crate::handed::Trial;
-use crate::journal::REFUSED_UNDO;
+use crate::handed::{edition_has, needs, Trial};
 use crate::lock::*;
 use std::collections::HashMap;
 
@@ -30,10 +28,6 @@ pub enum Test {
     Fresh(u8, Cell),
     Event,
     Processor,
-    /// The byte of an undo is 0.
-    Byte,
-    /// The neighbour of an entry is below N.
-    Neighbour,
 }
 
 /// Adds a test and the value it is asked of, once for each state.
@@ -45,7 +39,7 @@ fn note(list: &mut Vec<(Test, u8)>, test: Test, value: u8) {
 
 /// The tests of soundness that a state fails, with the values that fail them. As in document 01 each is asked of all
 /// sixteen rows, so "as fresh" is alone only where the value would do in a row in use.
-pub fn failing(lock: &Lock) -> Vec<(Test, u8)> {
+fn failing(lock: &Lock) -> Vec<(Test, u8)> {
     let mut list = Vec::new();
     let mut ask = |holds: bool, test: Test, value: u8| {
         if !holds {
@@ -81,32 +75,29 @@ pub fn failing(lock: &Lock) -> Vec<(Test, u8)> {
 fn meeting(lock: &Lock) -> Vec<(Test, u8)> {
     let mut list = vec![(Test::Edition, lock.edition), (Test::NotZero, lock.n), (Test::AtMost, lock.n)];
     list.push((Test::NoneOrBelow(Cell::Tail), lock.tail));
-    lock.rows[..lock.n as usize].iter().for_each(|row| row_meeting(row, &mut list));
+    for row in &lock.rows[..lock.n as usize] {
+        for &cell in REF_CELLS {
+            note(&mut list, Test::NoneOrBelow(cell), row.cell(cell));
+        }
+        note(&mut list, Test::Locked, row.locked);
+        note(&mut list, Test::Place, row.place);
+        for &cell in PRIVATE_CELLS.iter().filter(|&&cell| !needs(row.place, cell)) {
+            // Which processor it is does not matter.
+            let value = if row.cell(cell) == NONE { NONE } else { 0 };
+            note(&mut list, Test::NeedsNot(row.place, cell), value);
+        }
+        if PRIVATE_CELLS.iter().all(|&cell| needs(row.place, cell) == (row.cell(cell) != NONE)) {
+            for &cell in PRIVATE_CELLS {
+                note(&mut list, Test::Needs(row.place, cell), 0);
+            }
+        }
+    }
     let last = lock.n - 1;
     let last_row = &lock.rows[last as usize];
     for &cell in ROW_CELLS.iter().filter(|&&cell| last_row.cell(cell) != FRESH_ROW.cell(cell)) {
         note(&mut list, Test::Fresh(last, cell), last_row.cell(cell));
     }
     list
-}
-
-/// The same of one row in use.
-fn row_meeting(row: &Row, list: &mut Vec<(Test, u8)>) {
-    for &cell in REF_CELLS {
-        note(list, Test::NoneOrBelow(cell), row.cell(cell));
-    }
-    note(list, Test::Locked, row.locked);
-    note(list, Test::Place, row.place);
-    for &cell in PRIVATE_CELLS.iter().filter(|&&cell| !needs(row.place, cell)) {
-        // Which processor it is does not matter.
-        let value = if row.cell(cell) == NONE { NONE } else { 0 };
-        note(list, Test::NeedsNot(row.place, cell), value);
-    }
-    if PRIVATE_CELLS.iter().all(|&cell| needs(row.place, cell) == (row.cell(cell) != NONE)) {
-        for &cell in PRIVATE_CELLS {
-            note(list, Test::Needs(row.place, cell), 0);
-        }
-    }
 }
 
 /// A test with the value it was asked of, and the edition and N of the state.
@@ -123,7 +114,7 @@ pub struct Asked {
 pub struct Census(HashMap<Asked, u64>);
 
 impl Census {
-    pub fn add(&mut self, lock: &Lock, test: Test, value: u8) {
+    fn add(&mut self, lock: &Lock, test: Test, value: u8) {
         *self.0.entry(Asked { edition: lock.edition, n: lock.n, test, value }).or_insert(0) += 1;
     }
 
@@ -142,15 +133,7 @@ pub struct Edges {
 }
 
 impl Edges {
-    /// A row in use that meets all its tests.
-    pub fn meet_row(&mut self, lock: &Lock, row: &Row) {
-        let mut list = Vec::new();
-        row_meeting(row, &mut list);
-        list.into_iter().for_each(|(test, value)| self.met.add(lock, test, value));
-    }
-
-    /// Counts a trial, and gives the refusal that the documents want for it, or 0. The journal is empty, so an undo has
-    /// nothing left to undo.
+    /// Counts a trial, and gives the refusal that document 01 wants for it, or 0.
     pub fn count(&mut self, trial: &Trial) -> u8 {
         let lock = &trial.lock;
         match failing(lock)[..] {
@@ -167,19 +150,14 @@ impl Edges {
         for (test, value) in meeting(lock) {
             self.met.add(lock, test, value);
         }
-        let of_processor = if trial.is_undo() { Test::Byte } else { Test::Processor };
         match (trial.good_event(), trial.good_processor()) {
             (true, true) => {
                 self.met.add(lock, Test::Event, trial.event);
-                self.met.add(lock, of_processor, trial.processor);
-                if trial.is_undo() {
-                    REFUSED_UNDO
-                } else {
-                    0
-                }
+                self.met.add(lock, Test::Processor, trial.processor);
+                0
             }
             (true, false) => {
-                self.alone.add(lock, of_processor, trial.processor);
+                self.alone.add(lock, Test::Processor, trial.processor);
                 REFUSED_PROCESSOR
             }
             (false, true) => {

@@ -71,7 +71,7 @@ fn start(random: &mut Random, first: &[u8]) -> Table {
 /// Fills the cell in which the first schedule alone counts most, so that its count is the last that fits, or the first
 /// that does not.
 fn fill_one(random: &mut Random, first: &[u8], table: &mut Table) {
-    let alone = alone(first).after;
+    let (_, alone, _) = reported(first, MOST as usize, &Table::ZERO);
     let most = alone.cells().max().unwrap_or(0);
     // A refused report leaves all cells 0, and so cell 0 0 is the one.
     let cell = table.counts.iter_mut().flatten().zip(alone.cells()).find(|(_, count)| *count == most);
@@ -94,12 +94,6 @@ fn reported(schedule: &[u8], lent: usize, before: &Table) -> (Answer, Table, Vec
     });
     let failed = Answer { refusal: FAILED, line: 0, laid: 0 };
     result.unwrap_or_else(|_| (failed, *before, rows(lent)))
-}
-
-/// The report of a schedule alone, from a table of zeros and with all rows lent.
-pub fn alone(schedule: &[u8]) -> Reported {
-    let (answer, after, lent) = reported(schedule, MOST as usize, &Table::ZERO);
-    Reported { k: 0, answer, before: Table::ZERO, after, lent }
 }
 
 impl List {
@@ -147,19 +141,13 @@ fn answers_digest(reports: &[Reported]) -> u64 {
     random::digest(&bytes)
 }
 
-/// The digest of all answers, and that of the table at the end.
-pub fn digests(reports: &[Reported]) -> [u64; 2] {
-    [answers_digest(reports), table_digest(reports)]
-}
-
 /// The lines of all lists.
 pub fn print() -> String {
     let mut text = String::new();
     for i in 0..LISTS {
         let list = list(i);
         let (first, other) = (list.reports(&list.order()), list.reports(&list.other_order()));
-        let [answers, table] = digests(&first);
-        text += &format!("{} {} {} {}", i, refused(&first), answers, table);
+        text += &format!("{} {} {} {}", i, refused(&first), answers_digest(&first), table_digest(&first));
         text += &format!(" {} {}\n", refused(&other), table_digest(&other));
     }
     text

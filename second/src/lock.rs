@@ -1,5 +1,5 @@
-//! The lock: its state, its limits, step and raise, and refusals 6 to 9.
-//! The step table stands in step.rs, soundness in sound.rs, the undo and its journal in journal.rs.
+//! The lock: its state, its limits, the two events, and refusals 6 to 9 and 11.
+//! The step table stands in step.rs, soundness in sound.rs.
 
 /// No processor.
 pub const NONE: u8 = 255;
@@ -15,8 +15,6 @@ pub const EDITIONS: [&str; LAST_EDITION as usize + 1] = ["plain", "drawn", "guar
 
 pub const STEP: u8 = 1;
 pub const RAISE: u8 = 2;
-/// Request [6]: takes the latest event back.
-pub const UNDO: u8 = 3;
 
 pub const RELEASED: u8 = 0;
 pub const LOCKED: u8 = 1;
@@ -64,9 +62,9 @@ pub const PLACES: [&str; LAST_PLACE as usize + 1] = [
 pub const REFUSED_EDITION: u8 = 6;
 /// Refusal 7: N is 0 or over 16.
 pub const REFUSED_N: u8 = 7;
-/// Refusal 8: event none of 1, 2, 3.
+/// Refusal 8: event neither 1 nor 2.
 pub const REFUSED_EVENT: u8 = 8;
-/// Refusal 9: processor not below N, or the byte of an undo not 0.
+/// Refusal 9: processor not below N.
 pub const REFUSED_PROCESSOR: u8 = 9;
 /// Refusal 11: the state handed in isn't sound.
 pub const REFUSED_STATE: u8 = 11;
@@ -107,20 +105,15 @@ impl Lock {
         Ok(Lock { edition, n, tail: NONE, rows: [FRESH_ROW; MOST as usize] })
     }
 
-    /// Refusal 8 or 9 of a step or raise. An undo is no event of the lock alone.
-    pub fn takes(&self, event: u8, processor: u8) -> Result<(), u8> {
+    /// Carries out one event and says whether it was an entry; or refusal 8 or 9, and nothing changes.
+    /// Soundness is not asked here: a run from fresh meets sound states only.
+    pub fn event(&mut self, event: u8, processor: u8) -> Result<bool, u8> {
         if event != STEP && event != RAISE {
             return Err(REFUSED_EVENT);
         }
         if processor >= self.n {
             return Err(REFUSED_PROCESSOR);
         }
-        Ok(())
-    }
-
-    /// Carries out a step or raise and says whether it was an entry; or refusal 8 or 9, and nothing changes.
-    pub fn event(&mut self, event: u8, processor: u8) -> Result<bool, u8> {
-        self.takes(event, processor)?;
         if event == RAISE {
             self.rows[processor as usize].flag = true;
             return Ok(false);
@@ -128,5 +121,13 @@ impl Lock {
         self.step(processor);
         // No step starts and ends at 9, so ending there is enough.
         Ok(self.rows[processor as usize].place == INSIDE)
+    }
+
+    /// The same on a state handed in, which may be any: refusal 11 comes before 8 and 9.
+    pub fn event_handed(&mut self, event: u8, processor: u8) -> Result<bool, u8> {
+        if !self.sound() {
+            return Err(REFUSED_STATE);
+        }
+        self.event(event, processor)
     }
 }

@@ -2,7 +2,6 @@
 
 mod alike;
 mod answers;
-mod backs;
 mod bench;
 mod bytes;
 mod canon;
@@ -10,17 +9,13 @@ mod case;
 mod cell;
 mod charged;
 mod coverage;
-mod drawn;
 mod edges;
 mod fates;
 mod filed;
 mod frame;
 mod handed;
-mod journal;
-mod journals;
 mod lists;
 mod lock;
-mod naive;
 mod order;
 mod overtaking;
 mod places;
@@ -28,22 +23,16 @@ mod random;
 mod reachable;
 mod readings;
 mod report;
-mod restored;
-mod ring;
 mod shortest;
 mod sound;
 mod step;
-mod survivors;
 mod table;
 mod turned;
 mod turns;
-mod undone;
-mod undos;
 mod verdict;
 mod waited;
 mod wanted;
 mod watch;
-mod withdrawn;
 
 use std::io::{Read, Write};
 use std::process::exit;
@@ -51,23 +40,19 @@ use watch::Goal;
 
 const USAGE: &str = "usage: second              a schedule on standard input, its log on standard output
        second random       the sizes and digests of the 800 random logs
-       second schedule I   random schedule I; from 816 to 1055 they have undos
+       second schedule I   random schedule I
        second handed       the digests of what comes back for 78,000 states handed in at random
        second bytes        the sizes and digests of the logs for every pair of bytes, and for every byte of a line
        second reports      the digests of the reports, who made whom wait, over 300 lists of random schedules
        second places       the digests of what comes back for every place in the editions 0 to 5, and the places of each
-       second undos        the sizes and digests of the logs of the 240 schedules with undos, and of their reports
-       second journals     the digests of what comes back for 30,000 states and journals handed in at random
        second report ARGUMENT..
                            the report over files: s and the name of a schedule, or t and the name of a table
        second coverage     how often the 800 schedules take each side of the step table, the states handed in
                            each side of the tests of soundness, and which digits in which case the reader meets
-       second undone       what the schedules with undos and the journals handed in take back, what refuses an undo,
-                           and whether each state is the one that the events not undone give
        second charged      which refusals and which joins the reports over the 300 lists meet
        second verdict      who waits and who is passed over in one schedule on standard input
-       second verdicts     the same for the 800 random schedules and the 240 with undos
-       second order        what these schedules show of demand 3, and of two never being inside together
+       second verdicts     the same for the 800 random schedules
+       second order        what the 800 random schedules show of demand 3, and of two never being inside together
        second order one    the same for one schedule on standard input
        second reachable N  all states of N processors that can be reached from fresh, N from 1 to 3
        second shortest N   the least number of events in which the drawn edition lets a waiter of N processors that
@@ -97,12 +82,13 @@ fn main() {
         ["bytes"] => put(bytes::print().as_bytes()),
         ["reports"] => put(lists::print().as_bytes()),
         ["places"] => put(places::print().as_bytes()),
-        ["undos"] => put(&undos::print()),
-        ["journals"] => put(journals::print().as_bytes()),
         // The names as they are given: they need not be text.
         ["report", ..] => put(filed::print(std::env::args_os().skip(2)).as_bytes()),
-        ["coverage"] => judge_all(&[coverage::print(), answers::print(), readings::print(), alike::print()]),
-        ["undone"] => judge_all(&[naive::print(), withdrawn::print(), undone::print(), backs::print()]),
+        ["coverage"] => {
+            let parts = [coverage::print(), answers::print(), readings::print(), alike::print()];
+            let texts: Vec<&str> = parts.iter().map(|(text, _)| text.as_str()).collect();
+            judge((texts.join("\n"), parts.iter().all(|(_, good)| *good)));
+        }
         ["charged"] => judge(charged::print()),
         ["verdict"] => try_put(verdict::print(&get())),
         ["verdicts"] => try_put(verdict::print_all()),
@@ -127,12 +113,6 @@ fn shortest(n: &str, print: fn(u8) -> Result<String, String>) {
         Ok(n) if shortest::can_search(n) => try_put(print(n)),
         _ => usage(),
     }
-}
-
-/// The same of several texts, with an empty line between them.
-fn judge_all(parts: &[(String, bool)]) {
-    let texts: Vec<&str> = parts.iter().map(|(text, _)| text.as_str()).collect();
-    judge((texts.join("\n"), parts.iter().all(|(_, good)| *good)));
 }
 
 /// Writes a text and ends with status 1 if it is not good.

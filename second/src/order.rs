@@ -1,10 +1,8 @@
-//! Order: what runs show of demand 3, and of two never being inside together. It is counted from the verdicts, so of the
-//! events not undone; but two must not be inside together after any line.
+//! Order: what runs show of demand 3, and of two never being inside together. It is counted from the verdicts.
 //! The old edition has no joins: there it is counted of first tries, and an overtaking is allowed.
 
 use crate::lock::*;
 use crate::random;
-use crate::undos;
 use crate::verdict::{self, End, Stretch, Verdict};
 
 /// What was found in the runs of one edition.
@@ -113,11 +111,11 @@ fn follow(schedule: &[u8], found: &mut [Found; EDITIONS.len()]) {
     }
 }
 
-/// The findings over the random schedules, those with undos too, and whether they keep what is claimed. A damaged one
-/// has the events before its refusal.
+/// The findings over the random schedules, and whether they keep what is claimed. A damaged one has the events before
+/// its refusal.
 pub fn print() -> (String, bool) {
     let mut found = [Found::default(); EDITIONS.len()];
-    for i in (0..random::SCHEDULES).chain(undos::NUMBERS) {
+    for i in 0..random::SCHEDULES {
         follow(&random::schedule(i), &mut found);
     }
     report(&found)

@@ -1,10 +1,9 @@
-//! The random schedules of docs/RANDOM.md, and what is printed of their logs. Those with undos stand in undos.rs.
+//! The random schedules of docs/RANDOM.md, and what is printed of their logs.
 
 use crate::bench;
 use crate::case;
 use crate::frame;
 use crate::lock::OLD;
-use crate::undos;
 
 /// How many schedules are compared.
 pub const SCHEDULES: u64 = 800;
@@ -154,9 +153,6 @@ impl Plan {
 
 /// Schedule i. The draws stand in the order of the page.
 pub fn schedule(i: u64) -> Vec<u8> {
-    if undos::NUMBERS.contains(&i) {
-        return undos::schedule(i);
-    }
     // The remainder is taken first too, so that no i is too large to multiply.
     let random = &mut Random { x: ((i % 2147483648) * 7919 + 17) % 2147483648 };
     let plan = Plan::draw(i, random);

@@ -2,8 +2,8 @@
 //! that must be as fresh. Every number in them must reach the least.
 
 use crate::cell::{Cell, PRIVATE_CELLS, ROW_CELLS};
-use crate::drawn::{edition_has, needs};
 use crate::edges::{Asked, Edges, Test};
+use crate::handed::{edition_has, needs};
 use crate::lock::*;
 use crate::report::Report;
 
@@ -39,7 +39,7 @@ impl Value {
 use Value::{BeforeN, Is, N};
 
 /// Where a test turns: a value that fails it, and the one beside it that meets it.
-pub struct Turn {
+struct Turn {
     words: &'static str,
     test: Test,
     fails: Value,
@@ -74,27 +74,10 @@ const TURNS: &[Turn] = &[
     at_n("nx none or below N", Cell::Nx),
     at_none("nx none or below N", Cell::Nx),
     turn("locked 0 to 3", Test::Locked, Is(R_P + 1), Is(R_P)),
-    turn("event 1, 2 or 3", Test::Event, Is(STEP - 1), Is(STEP)),
-    turn("event 1, 2 or 3", Test::Event, Is(UNDO + 1), Is(UNDO)),
+    turn("event 1 or 2", Test::Event, Is(STEP - 1), Is(STEP)),
+    turn("event 1 or 2", Test::Event, Is(RAISE + 1), Is(RAISE)),
     turn("processor below N", Test::Processor, N, BeforeN),
-    turn("byte of an undo 0", Test::Byte, Is(1), Is(0)),
 ];
-
-/// Those of an entry that an undo puts back, beside its rows.
-pub const ENTRY_TURNS: &[Turn] = &[
-    turn("processor below N", Test::Processor, N, BeforeN),
-    turn("neighbour below N", Test::Neighbour, N, BeforeN),
-    at_n("tail none or below N", Cell::Tail),
-    at_none("tail none or below N", Cell::Tail),
-];
-
-/// Those of one row.
-pub fn row_turns() -> &'static [Turn] {
-    let of_row = |turn: &Turn| matches!(turn.test, Test::NoneOrBelow(cell) if cell != Cell::Tail);
-    let first = TURNS.iter().position(of_row).unwrap_or(0);
-    let last = TURNS.iter().position(|turn| turn.test == Test::Locked).unwrap_or(0);
-    &TURNS[first..=last]
-}
 
 pub fn print(edges: &Edges, report: &mut Report) {
     print_turns(edges, report);
@@ -111,7 +94,7 @@ fn print_turns(edges: &Edges, report: &mut Report) {
     report.line("N not 0 is alone only where L is none and all rows are fresh: with N 0 every row is one from N on");
 }
 
-pub fn print_turns_of(edges: &Edges, report: &mut Report, head: &str, turns: &[Turn], counted: fn(&Asked) -> bool) {
+fn print_turns_of(edges: &Edges, report: &mut Report, head: &str, turns: &[Turn], counted: fn(&Asked) -> bool) {
     report.line("");
     report.line(&format!("{:<24}alone    of these at    just met at", head));
     for turn in turns {

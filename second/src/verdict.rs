@@ -1,11 +1,9 @@
 //! The verdict of a run: who waited, how long, and who was passed over. docs/RANDOM.md says how it is counted.
-//! The letters are of all accepted lines. All else is of the events not undone, run by themselves.
 
 use crate::bench::{self, Happening};
+use crate::frame;
 use crate::lock::*;
 use crate::random;
-use crate::survivors::Survivors;
-use crate::undos;
 
 /// An entry of another processor in a stretch.
 #[derive(Clone, Copy)]
@@ -65,9 +63,8 @@ impl Stretch {
 pub struct Verdict {
     pub edition: u8,
     pub n: u8,
-    /// The line of the event that is looked at. Line 1 is the header.
+    /// The line of the latest event. Line 1 is the header.
     line: u64,
-    /// One for each accepted line.
     letters: String,
     pub stretches: Vec<Stretch>,
     /// For each processor the index of its latest stretch, and whether that stretch still goes on.
@@ -76,7 +73,7 @@ pub struct Verdict {
     came_from: [u8; MOST as usize],
     pub entries: u64,
     pub interrupts: u64,
-    /// The most inside at once, after any accepted line.
+    /// The most inside at once.
     pub inside: u64,
     /// The lines where a step and a raise give the same 03 line but not the same state.
     unlike: Vec<u64>,
@@ -84,19 +81,14 @@ pub struct Verdict {
 
 impl Verdict {
     fn new() -> Verdict {
-        Verdict { came_from: [REST; MOST as usize], ..Verdict::default() }
+        Verdict { line: 1, came_from: [REST; MOST as usize], ..Verdict::default() }
     }
 
-    /// Any accepted line.
-    fn accepted(&mut self, h: &Happening) {
+    fn event(&mut self, h: &Happening) {
+        self.line += 1;
         self.letter(h);
         let inside = h.after.rows.iter().filter(|row| row.place == INSIDE).count() as u64;
         self.inside = self.inside.max(inside);
-    }
-
-    /// An event that is not undone.
-    fn event(&mut self, line: u64, h: &Happening) {
-        self.line = line;
         if h.event != STEP {
             return;
         }
@@ -117,15 +109,11 @@ impl Verdict {
 
     /// The letter of an event does not ask what it is alone, but also what the other event would have given.
     fn letter(&mut self, h: &Happening) {
-        if h.event == UNDO {
-            self.letters.push('u');
-            return;
-        }
         let (step, step_line) = tried(h.before, STEP, h.processor);
         let (raise, raise_line) = tried(h.before, RAISE, h.processor);
         let same = step_line == raise_line;
         if same && step != raise {
-            self.unlike.push(self.letters.len() as u64 + 2);
+            self.unlike.push(self.line);
         }
         self.letters.push(match h.event {
             _ if same => 'b',
@@ -175,11 +163,10 @@ impl Verdict {
     }
 
     fn print(&self) -> String {
-        let events = self.letters.len();
-        let letters = if events == 0 { "none" } else { &self.letters };
+        let letters = if self.letters.is_empty() { "none" } else { &self.letters };
         let word = if self.edition == OLD { "try" } else { "join" };
         let stretches: String = self.stretches.iter().map(|stretch| stretch.print(word)).collect();
-        format!("run {} {} {}\nacts {}\n{}", self.edition, self.n, events, letters, stretches)
+        format!("run {} {} {}\nacts {}\n{}", self.edition, self.n, self.line - 1, letters, stretches)
     }
 }
 
@@ -195,9 +182,10 @@ fn tried(before: &Lock, event: u8, p: u8) -> (Lock, Vec<u8>) {
 /// The verdict of a schedule, if there is a run.
 pub fn of(schedule: &[u8]) -> Option<Verdict> {
     let mut verdict = Verdict::new();
-    let survivors = Survivors::of(schedule, |h| verdict.accepted(h))?;
-    survivors.run(|line, h| verdict.event(line, h));
-    Some(Verdict { edition: survivors.edition, n: survivors.n, ..verdict })
+    let (log, _) = bench::follow(schedule, |h| verdict.event(h));
+    // The log begins with the header's numbers, unless line 1 is refused; then it is a 05 line, which is no such line.
+    let [_, edition, n, _] = frame::read(&log, 1).ok()?;
+    Some(Verdict { edition, n, ..verdict })
 }
 
 /// What is printed of a schedule, or a message where a letter `b` hides a difference.
@@ -211,10 +199,10 @@ pub fn print(schedule: &[u8]) -> Result<String, String> {
     }
 }
 
-/// The same for the random schedules, and then for those with undos.
+/// The same for the random schedules.
 pub fn print_all() -> Result<String, String> {
     let mut text = String::new();
-    for i in (0..random::SCHEDULES).chain(undos::NUMBERS) {
+    for i in 0..random::SCHEDULES {
         let verdict = print(&random::schedule(i)).map_err(|message| format!("schedule {}, {}", i, message))?;
         text += &format!("schedule {}\n{}", i, verdict);
     }

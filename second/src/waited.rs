@@ -29,7 +29,7 @@ pub struct Answer {
     pub laid: u8,
 }
 
-/// An accepted event that is not undone, and what it was of the three things counted. Join and entry may be one step.
+/// An accepted event, and what it was of the three things counted. Join and entry may be one step.
 struct Act {
     processor: u8,
     join: bool,
@@ -51,16 +51,7 @@ impl Act {
     }
 }
 
-/// Takes an event into the record, or the latest out of it: an undo takes back the latest that is not undone yet.
-fn record(acts: &mut Vec<Act>, h: &Happening) {
-    if h.event == UNDO {
-        acts.pop();
-    } else {
-        acts.push(Act::of(h));
-    }
-}
-
-/// The record of a run in which nothing was refused. What is undone is not in it.
+/// The record of a run in which nothing was refused.
 struct Run {
     n: u8,
     acts: Vec<Act>,
@@ -71,7 +62,7 @@ impl Run {
     fn of(schedule: &[u8]) -> Result<Run, (u8, u16)> {
         let mut log = Vec::new();
         let mut acts = Vec::new();
-        bench::run(schedule, &mut log, |h| record(&mut acts, h))?;
+        bench::run(schedule, &mut log, |h| acts.push(Act::of(h)))?;
         // The log begins with the header as the writer gives it.
         let [_, _, n, _] = frame::read(&log, 1).expect("nothing was refused");
         Ok(Run { n, acts })
@@ -88,10 +79,7 @@ impl Run {
     fn charges(&self) -> Table {
         let mut charges = Table::ZERO;
         for (entered, entry) in self.acts.iter().enumerate().filter(|(_, act)| act.entry) {
-            let joined = match self.join_to(entered) {
-                Some(joined) => joined,
-                None => continue,
-            };
+            let Some(joined) = self.join_to(entered) else { continue };
             let between = self.acts.iter().take(entered).skip(joined + 1);
             for other in between.filter(|act| act.entry) {
                 charges.counts[other.processor as usize][entry.processor as usize] += 1;

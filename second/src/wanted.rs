@@ -1,10 +1,8 @@
 //! Wanted: the report that the documents want of a schedule, said apart from waited.rs. The line of a refusal is
-//! counted from the log, and the charges come from the verdict, which carries the open joins along with its run. Both
-//! rows and charges are of the events not undone, run by themselves.
+//! counted from the log, and the charges come from the verdict, which carries the open joins along with its run.
 
-use crate::bench::{self, Happening};
+use crate::bench;
 use crate::lock::*;
-use crate::survivors::Survivors;
 use crate::table::{Table, REFUSED_COUNT};
 use crate::verdict::{self, End, Stretch, Verdict};
 use crate::waited::{Answer, Lent, REFUSED_ROWS};
@@ -25,15 +23,11 @@ type Sums = [[u64; MOST as usize]; MOST as usize];
 impl Wanted {
     pub fn of(schedule: &[u8]) -> Wanted {
         let mut interrupts = [0; MOST as usize];
-        let count = |_, h: &Happening| {
+        let (log, refusal) = bench::follow(schedule, |h| {
             let to = h.after.rows[h.processor as usize].place;
             // Only a poll leads to service.
             interrupts[h.processor as usize] += (h.event == STEP && [SERVICE, OLD_SERVICE].contains(&to)) as u32;
-        };
-        if let Some(survivors) = Survivors::of(schedule, |_| ()) {
-            survivors.run(count);
-        }
-        let (log, refusal) = bench::follow(schedule, |_| ());
+        });
         // Each accepted line has one in the log, and the 05 line stands for the line refused.
         let lines = log.iter().filter(|&&byte| byte == b'\n').count() as u16;
         let line = if [0, bench::REFUSED_SCHEDULE].contains(&refusal) { 0 } else { lines };
@@ -66,7 +60,7 @@ impl Wanted {
 
     /// Whether fewer rows are lent than N, where N is known.
     pub fn short(&self, lent: usize) -> bool {
-        self.run.as_ref().map_or(false, |run| lent < run.n as usize)
+        self.run.as_ref().is_some_and(|run| lent < run.n as usize)
     }
 
     /// Whether a count would pass.

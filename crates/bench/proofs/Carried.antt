@@ -5,43 +5,48 @@
 --     show_room, goes_on       an event that is accepted: there is room for its row, and the loop stands one line further
 --     count_room, count_ends   at the end of the text there is room for the count, and with it the log is whole
 -- Assumes nothing.
-use Rattle.std.proofs.Common.{◌≡◌, ℕ, suc, ◌+◌, ◌<◌, ◌≤◌, true, false, List, ◌++◌, length, take, drop, sym, refl, ap, ◌∙◌, ⊎_elim, true≢false, append_assoc, append-nil, add-one, arith, length-drop, drop-drop}
+use Prim.Native.Nat.{ℕ, suc, ◌+◌, ◌≤◌, ◌<◌}
+use native.Mathlib.Omega.{arith}
+use native.Mathlib.Numerals.{add-one}
+use mathlib.Core.Path.{◌≡◌, refl, sym, ap, ◌∙◌}
+use mathlib.Core.Logic.{⊎_elim}
+use mathlib.Core.Bool.{true, false, true≢false}
+use mathlib.Core.List.{List, ◌++◌, append_assoc, append-nil}
+use lib.ListN.{length, take, drop, length-drop}
+use lib.Seq.{drop-drop}
 use Rattle.lock.specs.declared.Row.{Row}
 use Rattle.lock.specs.declared.LockState.{LockState}
 use Rattle.lock.specs.State.{row}
 use Rattle.lock.specs.Kept.{Whole}
-use Rattle.history.specs.declared.History.{History}
-use Rattle.history.specs.Event.{unwritten}
 use Rattle.frame.specs.Reading.{rest_of}
 use Rattle.bench.specs.Log.{refused_at, counted, row_shown, shown, Turn, stopped, turn_of, log_from}
 use Rattle.bench.specs.Steps.{filled, laid, later_log, lines_room}
 use Rattle.bench.proofs.Sizes.{count_size, refusal_size, row_size, GoesOn, Stops, turn_size}
 use Rattle.bench.proofs.Fuel.{log_ends, log_turns}
 use Rattle.bench.proofs.Frames.{shows}
-use Rattle.bench.proofs.Sound.{Followed, first_followed}
 use Rattle.bench.proofs.Parts.{put, filled_by}
 
 -- Where the loop stands: `out` was `buffer`, `at` bytes of it are written, and the log of `text` from the state
 -- `first` on is what is written and what is still to come.
-pub record Carried (text : List ℕ) (first : LockState) (buffer out rest : List ℕ) (s : History)
+pub record Carried (text : List ℕ) (first : LockState) (buffer out rest : List ℕ) (s : LockState)
     (accepted at : ℕ) : Type 0 where
   pub long : length out ≡ length buffer
   pub room : at + lines_room rest ≤ length buffer
   pub kept : drop at out ≡ drop at buffer
   pub log : take at out ++ log_from (length rest) s accepted rest ≡ later_log first text
   pub fewer : accepted + length rest ≤ length text
-  pub followed : Followed first s
+  pub sound : Whole s
 
 pub begins : (text : List ℕ) (s : LockState) (buffer : List ℕ) → lines_room text ≤ length buffer → Whole s →
-    Carried text s buffer buffer text (unwritten s) 0 0
+    Carried text s buffer buffer text s 0 0
 begins text s buffer h w =
-    record { long = refl; room = omega arith; kept = refl; log = refl; fewer = omega arith; followed = first_followed s w }
+    record { long = refl; room = omega arith; kept = refl; log = refl; fewer = omega arith; sound = w }
 
 -- what is as it was from a place on is so from a later place on
 further : (at n : ℕ) (out buffer : List ℕ) → drop at out ≡ drop at buffer → drop (at + n) out ≡ drop (at + n) buffer
 further at n out buffer e = sym (drop-drop n at out) ∙ ap (drop n) e ∙ drop-drop n at buffer
 
-module _ (text : List ℕ) (first : LockState) (buffer out rest : List ℕ) (s : History) (accepted at : ℕ)
+module _ (text : List ℕ) (first : LockState) (buffer out rest : List ℕ) (s : LockState) (accepted at : ℕ)
     (i : Carried text first buffer out rest s accepted at) where
   -- the last line of the log is written
   ends : (line last : List ℕ) → log_from (length rest) s accepted rest ≡ line → at + length line ≤ length out →
@@ -80,8 +85,8 @@ module _ (text : List ℕ) (first : LockState) (buffer out rest : List ℕ) (s :
           let line = refused_at refusal (accepted + 2) in
           rw f (ends line last (log_turns s accepted rest some ∙ simp t (append-nil line)) stop_room e)
 
-    module _ (next : History) (event p : ℕ) (t : turn_of s (accepted + 2) rest ≡ shows next event p) (r : Row)
-        (g : r ≡ row next.lock p) where
+    module _ (next : LockState) (event p : ℕ) (t : turn_of s (accepted + 2) rest ≡ shows next event p) (r : Row)
+        (g : r ≡ row next p) where
       -- a turn that goes on has read nine bytes
       nine : 9 ≤ length rest
       nine =
@@ -89,23 +94,23 @@ module _ (text : List ℕ) (first : LockState) (buffer out rest : List ℕ) (s :
           (λ (z : Stops (turn_of s (accepted + 2) rest)). absurd (true≢false (sym (ap (λ (u : Turn). u.goes_on) t) ∙ z.0)))
           (turn_size s (accepted + 2) rest)
 
-      line_is : row_shown p next.lock.tail r event ≡ shown next.lock event p
+      line_is : row_shown p next.tail r event ≡ shown next event p
       unfolding shown
-      line_is = ap (λ (x : Row). row_shown p next.lock.tail x event) g
+      line_is = ap (λ (x : Row). row_shown p next.tail x event) g
 
-      pub show_room : at + length (row_shown p next.lock.tail r event) ≤ length out
-      show_room = omega (arith, row_size p next.lock.tail r event, nine, i.room, i.long)
+      pub show_room : at + length (row_shown p next.tail r event) ≤ length out
+      show_room = omega (arith, row_size p next.tail r event, nine, i.room, i.long)
 
-      pub goes_on : Followed first next → (end : ℕ) → end ≡ at + length (row_shown p next.lock.tail r event) → (last : List ℕ) →
-          last ≡ laid at (row_shown p next.lock.tail r event) out → (later : List ℕ) → later ≡ rest_of rest →
+      pub goes_on : Whole next → (end : ℕ) → end ≡ at + length (row_shown p next.tail r event) → (last : List ℕ) →
+          last ≡ laid at (row_shown p next.tail r event) out → (later : List ℕ) → later ≡ rest_of rest →
           Carried text first buffer last later next (accepted + 1) end
       goes_on w end f last e later h =
-          let line = row_shown p next.lock.tail r event in
+          let line = row_shown p next.tail r event in
           let is-put = put at out line show_room last e in
           rw (h, f)
           (record {
             long = is-put.long ∙ i.long;
-            room = omega (arith, i.room, length-drop 9 rest, row_size p next.lock.tail r event, nine);
+            room = omega (arith, i.room, length-drop 9 rest, row_size p next.tail r event, nine);
             kept = is-put.kept ∙ further at (length line) out buffer i.kept;
             log =
                 ap (λ (l : List ℕ). l ++ log_from (length (rest_of rest)) next (accepted + 1) (rest_of rest))
@@ -117,5 +122,5 @@ module _ (text : List ℕ) (first : LockState) (buffer out rest : List ℕ) (s :
                 ∙ sym (log_turns s accepted rest some ∙ simp t))
                 ∙ i.log;
             fewer = omega (arith, i.fewer, length-drop 9 rest, nine);
-            followed = w;
+            sound = w;
           })

@@ -4,10 +4,15 @@
 --     as_before      where line 1 is in upper case, the line of its numbers is line 1 as read
 --     sharp          and not in another case
 -- Assumes nothing.
-use Rattle.std.proofs.Common.{◌≡◌, ℕ, zero, suc, ◌+◌, ◌≤◌, true, cond, eqb, ltb, List, [], ◌∷◌, ◌++◌, length, get_or, take, sym, refl, ap, ◌∙◌, arith}
+use Prim.Native.Nat.{ℕ, zero, suc, ◌+◌, ◌≤◌}
+use native.Mathlib.Omega.{arith}
+use mathlib.Core.Path.{◌≡◌, refl, sym, ap, ◌∙◌}
+use mathlib.Core.Bool.{true, cond}
+use mathlib.Core.List.{List, [], ◌∷◌, ◌++◌}
+use lib.ListN.{length, get_or, take}
+use lib.Dec.{eqb, ltb}
 use Rattle.choice.specs.Every.{every}
-use Rattle.history.specs.declared.History.{History}
-use Rattle.history.specs.Event.{unwritten}
+use Rattle.lock.specs.declared.LockState.{LockState}
 use Rattle.lock.specs.Event.{fresh}
 use Rattle.frame.specs.Case.{upper_case}
 use Rattle.frame.specs.Pairs.{value_of, digit_of, pair_at, pairs_from, sum_of, check_of}
@@ -21,11 +26,11 @@ use Rattle.bench.specs.Bridge.{edition_of, processors_of, first_refusal, first_l
 use Rattle.bench.specs.Case.{CaseIsSharp}
 use Rattle.bench.proofs.Hearing.{first_is_read, log_is_run}
 
-turn_raised : (s : History) (line : ℕ) (text : List ℕ) → turn_of s line (upper_case text) ≡ turn_of s line text
+turn_raised : (s : LockState) (line : ℕ) (text : List ℕ) → turn_of s line (upper_case text) ≡ turn_of s line text
 unfolding turn_of
 turn_raised s line text = ap (followed s line) (read_raised 3 2 text)
 
-later_raised : (fuel : ℕ) (s : History) (accepted : ℕ) (text : List ℕ) →
+later_raised : (fuel : ℕ) (s : LockState) (accepted : ℕ) (text : List ℕ) →
     log_from fuel s accepted (upper_case text) ≡ log_from fuel s accepted text
 unfolding log_from upper_case
 later_raised zero s accepted text = refl
@@ -45,9 +50,9 @@ begun_raised text edition n =
     let a = fresh edition n in
     let log : List ℕ → List ℕ =
     λ later. cond (eqb a.refusal 0) (header_line edition n ++ later) (refused_at a.refusal 1) in
-    ap (λ (m : ℕ). log (log_from m (unwritten a.state) 0 (rest_of (upper_case text)))) (upper_length text)
-    ∙ ap (λ (l : List ℕ). log (log_from (length text) (unwritten a.state) 0 l)) (upper_drop 9 text)
-    ∙ ap log (later_raised (length text) (unwritten a.state) 0 (rest_of text))
+    ap (λ (m : ℕ). log (log_from m a.state 0 (rest_of (upper_case text)))) (upper_length text)
+    ∙ ap (λ (l : List ℕ). log (log_from (length text) a.state 0 l)) (upper_drop 9 text)
+    ∙ ap log (later_raised (length text) a.state 0 (rest_of text))
 
 opened_raised : (text : List ℕ) (t : Told) → opened (upper_case text) t ≡ opened text t
 unfolding opened

@@ -9,23 +9,20 @@
 --     lower            request [3]: the worked example in lower case, with its log in upper case
 --     mixed            in mixed case, one line like no other
 --     letter_g         a g is no digit: refusal 3 at line 2
---     undone           request [6]: the worked example and an undo; the entry is taken back, and the count is of lines
---     back_inside      an undo that brings a processor back to 9: no entry mark
---     nothing_left     an undo with nothing to undo: refusal 14
---     undo_of_one      an undo whose byte is not 0: refusal 9, before 14
---     event_four       an event that there is not: refusal 8
 -- and what is heard of them, so that each premise of `EveryLogIsARun` is seen to be met:
 --     worked_heard     three calls, and no refusal
 --     refused_heard    one call of three, and refusal 9 of the line after it
 --     torn_heard       one call, and refusal 2
 --     first_unheard    refusal 6 of line 1
 -- Assumes nothing.
-use Rattle.std.proofs.Common.{◌≡◌, ℕ, List, [], ◌∷◌, refl}
+use Prim.Native.Nat.{ℕ}
 use Prim.Native.Char.{code}
 use Prim.Native.String.{String, [] as emptyText, ◌∷◌ as ◌before◌}
+use mathlib.Core.Path.{◌≡◌, refl}
+use mathlib.Core.List.{List, [], ◌∷◌}
 use Rattle.lock.specs.Event.{fresh}
 use Rattle.lock.specs.Run.{Call}
-use Rattle.history.proofs.Computed as Opened
+use Rattle.lock.proofs.Roof.Opened as Opened
 use Rattle.frame.specs.Pairs.{value_of, digit_of, pair_at, pairs_from, sum_of, check_of}
 use Rattle.frame.specs.Reading.{is_torn, are_digits, read_as}
 use Rattle.frame.specs.Writing.{digits_of, line_of}
@@ -61,20 +58,13 @@ record Examples : Type 0 where
   mixed : log_of (bytes "010001fE\n020100Fd\n020100fd\n020100fD\n")
       ≡ bytes "010001FE\n030002FF00FF00FD\n030003FF00FF00FC\n0300090000FF04F1\n040003F9\n"
   letter_g : log_of (bytes "010001FE\n020100gd\n") ≡ bytes "010001FE\n05030002F6\n"
-  undone : log_of (bytes "010001FE\n020100FD\n020100FD\n020100FD\n020300FB\n")
-      ≡ bytes "010001FE\n030002FF00FF00FD\n030003FF00FF00FC\n0300090000FF04F1\n030003FF00FF00FC\n040004F8\n"
-  back_inside : log_of (bytes "010001FE\n020100FD\n020100FD\n020100FD\n020100FD\n020300FB\n")
-      ≡ bytes "010001FE\n030002FF00FF00FD\n030003FF00FF00FC\n0300090000FF04F1\n03000E0000FF00F0\n0300090000FF00F5\n040005F7\n"
-  nothing_left : log_of (bytes "010001FE\n020300FB\n") ≡ bytes "010001FE\n050E0002EB\n"
-  undo_of_one : log_of (bytes "010001FE\n020301FA\n") ≡ bytes "010001FE\n05090002F0\n"
-  event_four : log_of (bytes "010001FE\n020400FA\n") ≡ bytes "010001FE\n05080002F1\n"
   worked_heard : Hears "010001FE\n020100FD\n020100FD\n020100FD\n" (step ∷ step ∷ step ∷ []) 0
   refused_heard : Hears "010001FE\n020100FD\n020101FC\n020100FD\n" (step ∷ []) 9
   torn_heard : Hears "010001FE\n020100FD\n0201" (step ∷ []) 2
   first_unheard : first_refusal (bytes "010401FA\n020100FD\n") ≡ 6
 
 computed : Examples
-unfolding bytes Opened.opened fresh value_of digit_of pair_at pairs_from sum_of check_of is_torn are_digits read_as digits_of
+unfolding bytes Opened.computed fresh value_of digit_of pair_at pairs_from sum_of check_of is_torn are_digits read_as digits_of
     line_of marks_of marks row_shown shown answered followed turn_of log_from begun opened log_of
     line_refusal heard_from
 computed =
@@ -89,11 +79,6 @@ computed =
       lower = refl;
       mixed = refl;
       letter_g = refl;
-      undone = refl;
-      back_inside = refl;
-      nothing_left = refl;
-      undo_of_one = refl;
-      event_four = refl;
       worked_heard = (refl, (refl, refl));
       refused_heard = (refl, (refl, refl));
       torn_heard = (refl, (refl, refl));

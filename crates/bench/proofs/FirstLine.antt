@@ -7,11 +7,18 @@
 --     begin_follows    line 1 of its numbers, and the later lines behind it, are `begun`
 --     begin_refuses    the refusal alone is `begun`
 -- Assumes nothing.
-use Rattle.std.proofs.Common.{◌≡◌, ℕ, ◌+◌, ◌-◌, ◌≤◌, true, false, eqb, List, ◌++◌, length, take, drop, sym, ap, ◌∙◌, append_assoc, arith, length-append, length-drop, drop-drop, take_at, drop_at, le-leb}
+use Prim.Native.Nat.{ℕ, ◌+◌, ◌-◌, ◌≤◌}
+use native.Mathlib.Omega.{arith}
+use mathlib.Core.Path.{◌≡◌, sym, ap, ◌∙◌}
+use mathlib.Core.Bool.{true, false}
+use mathlib.Core.List.{List, ◌++◌, append_assoc}
+use lib.ListN.{length, take, drop, length-append, length-drop}
+use lib.Seq.{drop-drop, take_at, drop_at}
+use lib.Dec.{eqb}
+use borrow.Author.Tests.{le-leb}
 use borrow.Rule.Slice.PartMut.{mid_of, put_mid}
 use Rattle.lock.specs.declared.Answer.{Answer}
 use Rattle.lock.specs.Event.{fresh}
-use Rattle.history.specs.Event.{unwritten}
 use Rattle.frame.specs.Reading.{refused_by, reads, rest_of}
 use Rattle.frame.specs.Writing.{leaves, header_line}
 use Rattle.frame.proofs.Proved.{lengths_are_known}
@@ -78,9 +85,9 @@ module _ (text out : List ℕ) (room : lines_room text ≤ length out) (edition 
       begun_is =
           simp (← made, state)
           (ap (λ (l : List ℕ). line ++ l)
-          (fuel_same (length text) (length (rest_of text)) (unwritten a.state) 0 (rest_of text)
+          (fuel_same (length text) (length (rest_of text)) a.state 0 (rest_of text)
           (omega (arith, length-drop 9 text)) (omega arith)
-          ∙ ap (λ (l : List ℕ). log_from (length l) (unwritten a.state) 0 l) (sym f)))
+          ∙ ap (λ (l : List ℕ). log_from (length l) a.state 0 l) (sym f)))
 
       begun_long : 9 + size ≡ length (begun text edition n)
       begun_long =

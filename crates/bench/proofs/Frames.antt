@@ -1,12 +1,18 @@
 -- What the definitions of a log come to, once it is known what the reader answers.
 --     refused_not_zero               a refusal of the reader is not 0
---     turn_shows, turn_stops, turn_refuses    a later line: its event accepted, or refused, or the line refused by the reader
+--     turn_shows, turn_stops, turn_refuses    a later line: its event accepted, or refused by the lock, or by the reader
 --     open_begins, open_refuses      line 1
 -- Assumes nothing.
-use Rattle.std.proofs.Common.{◌≡◌, ℕ, Bool, true, false, eqb, List, [], ◌∷◌, sym, ap, ◌∙◌, arith, ne_eqb}
-use Rattle.history.specs.declared.History.{History}
-use Rattle.history.specs.declared.Outcome.{Outcome}
-use Rattle.history.specs.Event.{goes}
+use Prim.Native.Nat.{ℕ}
+use mathlib.Core.Path.{◌≡◌, sym, ap, ◌∙◌}
+use mathlib.Core.Bool.{Bool, true, false}
+use mathlib.Core.List.{List, [], ◌∷◌}
+use lib.Dec.{eqb}
+use native.Mathlib.Omega.{arith}
+use borrow.Author.Tests.{ne_eqb}
+use Rattle.lock.specs.declared.LockState.{LockState}
+use Rattle.lock.specs.declared.Answer.{Answer}
+use Rattle.lock.specs.Event.{happens}
 use Rattle.frame.specs.Pairs.{pairs_from}
 use Rattle.frame.specs.Reading.{Told, refused_by, kind_of, reads}
 use Rattle.frame.proofs.Refusals.{by_order, is_zero}
@@ -17,9 +23,9 @@ use Rattle.bench.specs.Log.{shown, refused_at, Turn, stopped, answered, followed
 abbrev pub framed : ℕ → ℕ → ℕ → ℕ → Told
 framed kind first second check = record { refusal = 0; numbers = kind ∷ first ∷ second ∷ check ∷ [] }
 
--- a turn that goes on, with the row of the processor that the answer names
-abbrev pub shows : History → ℕ → ℕ → Turn
-shows s event p = record { goes_on = true; written = shown s.lock event p; next = s }
+-- a turn that goes on, with the row of the event's processor
+abbrev pub shows : LockState → ℕ → ℕ → Turn
+shows s event p = record { goes_on = true; written = shown s event p; next = s }
 
 four_are_some : (text : List ℕ) → [] ≡ pairs_from 0 4 text → ⊥
 unfolding pairs_from
@@ -32,16 +38,16 @@ refused_not_zero text is_first n e =
     let h = (by_order 4 (kind_of is_first) text).none.0 (ap (λ t. t.refusal) e ∙ z) in
     four_are_some text (ap (λ t. t.numbers) (sym e ∙ is_zero 4 (kind_of is_first) text h.0 h.1 h.2 h.3)))
 
-module _ (s : History) (line : ℕ) (text : List ℕ) where
-  module _ (kind event p check : ℕ) (e : reads text false ≡ framed kind event p check) (a : Outcome)
-      (f : a ≡ goes s event p) where
-    pub turn_shows : eqb a.refusal 0 ≡ true → turn_of s line text ≡ shows a.state event a.processor
+module _ (s : LockState) (line : ℕ) (text : List ℕ) where
+  module _ (kind event p check : ℕ) (e : reads text false ≡ framed kind event p check) (a : Answer)
+      (f : a ≡ happens s event p) where
+    pub turn_shows : eqb a.refusal 0 ≡ true → turn_of s line text ≡ shows a.state event p
     unfolding turn_of followed answered
-    turn_shows g = ap (followed s line) e ∙ ap (answered s line event) (sym f) ∙ simp g
+    turn_shows g = ap (followed s line) e ∙ ap (answered s line event p) (sym f) ∙ simp g
 
     pub turn_stops : eqb a.refusal 0 ≡ false → turn_of s line text ≡ stopped s a.refusal line
     unfolding turn_of followed answered
-    turn_stops g = ap (followed s line) e ∙ ap (answered s line event) (sym f) ∙ simp g
+    turn_stops g = ap (followed s line) e ∙ ap (answered s line event p) (sym f) ∙ simp g
 
   pub turn_refuses : (n : ℕ) → reads text false ≡ refused_by n → turn_of s line text ≡ stopped s n line
   unfolding turn_of followed

@@ -6,26 +6,32 @@
 --     first_is_read, first_whole   where line 1 is not refused, the reader has accepted it, and the first state is sound
 --     log_is_run                   the whole log
 -- Assumes nothing.
-use Rattle.std.proofs.Common.{◌≡◌, ℕ, zero, suc, ◌+◌, ◌*◌, ◌<◌, ◌≤◌, true, false, eqb, ◌≢◌, List, [], ◌∷◌, ◌++◌, length, drop, sym, refl, ap, ◌∙◌, subst, ⊎_elim, append_assoc, append-nil, arith, length-append, length-drop, drop-drop, le-ltb, lt-ltb, eq-eqb, ne_eqb, eqb-true}
+use Prim.Native.Nat.{ℕ, zero, suc, ◌+◌, ◌*◌, ◌≤◌, ◌<◌}
+use native.Mathlib.Omega.{arith}
+use mathlib.Core.Path.{◌≡◌, refl, sym, ap, ◌∙◌, subst}
+use mathlib.Core.Logic.{◌≢◌, ⊎_elim}
+use mathlib.Core.Bool.{true, false}
+use mathlib.Core.List.{List, [], ◌∷◌, ◌++◌, append_assoc, append-nil}
+use lib.ListN.{length, drop, length-append, length-drop}
+use lib.Seq.{drop-drop}
+use lib.Dec.{eqb}
+use borrow.Author.Tests.{eqb-true, eq-eqb, ne_eqb, lt-ltb, le-ltb}
 use Rattle.choice.proofs.Tests.{cases, clash}
+use Rattle.lock.specs.declared.LockState.{LockState}
 use Rattle.lock.specs.declared.Answer.{Answer}
-use Rattle.lock.specs.Event.{fresh}
+use Rattle.lock.specs.Event.{fresh, happens}
 use Rattle.lock.specs.Kept.{Whole}
-use Rattle.lock.specs.Run.{Call, run}
+use Rattle.lock.specs.Run.{Call, after, run}
 use Rattle.lock.specs.Claims.{made, IsRun}
 use Rattle.lock.proofs.Keeping.{fresh_kept}
 use Rattle.lock.proofs.Roof.Callers.{calls_are_a_run}
-use Rattle.history.specs.declared.History.{History}
-use Rattle.history.specs.Event.{unwritten, goes}
-use Rattle.history.specs.Survivors.{survivors, afterward, walk}
-use Rattle.history.proofs.Claimed.{survivors_give}
 use Rattle.frame.specs.Reading.{reads, rest_of}
 use Rattle.bench.specs.Log.{longest, refused_at, counted, shown, stopped, answered, followed, turn_of, log_from, begun, opened, log_of}
-use Rattle.bench.specs.Bridge.{call_of, whose, rows_of, are_accepted, edition_of, processors_of, first_state, first_history, first_refusal, line_refusal, heard_from, heard_of, refusal_of, ending, first_line, later_lines, LogIsARun}
+use Rattle.bench.specs.Bridge.{call_of, rows_of, are_accepted, edition_of, processors_of, first_state, first_refusal, line_refusal, heard_from, heard_of, refusal_of, ending, first_line, later_lines, LogIsARun}
 use Rattle.bench.proofs.Sizes.{shown_size}
 use Rattle.bench.proofs.Frames.{shows}
 
-module _ (s : History) (line b : ℕ) (text : List ℕ) where
+module _ (s : LockState) (line b : ℕ) (text : List ℕ) where
   abbrev here : List ℕ
   here = b ∷ text
 
@@ -36,8 +42,8 @@ module _ (s : History) (line b : ℕ) (text : List ℕ) where
   unread = (reads here false).refusal
 
   pub heard_turn : eqb (line_refusal s here) 0 ≡ true →
-      turn_of s line here ≡ shows (afterward s call) call.event (whose s call)
-  unfolding turn_of followed answered afterward line_refusal
+      turn_of s line here ≡ shows (after s call) call.event call.processor
+  unfolding turn_of followed answered after line_refusal
   heard_turn e =
       ⊎_elim (λ (r : eqb unread 0 ≡ true). simp (r, simp r at e))
       (λ (r : eqb unread 0 ≡ false). clash (simp r at e) refl)
@@ -51,7 +57,7 @@ module _ (s : History) (line b : ℕ) (text : List ℕ) where
       (cases (eqb unread 0))
 
   -- the call is then accepted
-  pub heard_taken : eqb (line_refusal s here) 0 ≡ true → eqb (goes s call.event call.processor).refusal 0 ≡ true
+  pub heard_taken : eqb (line_refusal s here) 0 ≡ true → eqb (happens s call.event call.processor).refusal 0 ≡ true
   unfolding line_refusal
   heard_taken e =
       ⊎_elim (λ (r : eqb unread 0 ≡ true). simp r at e)
@@ -60,7 +66,7 @@ module _ (s : History) (line b : ℕ) (text : List ℕ) where
 
   -- what is heard of the text from this line on
   more : (fuel : ℕ) → eqb (line_refusal s here) 0 ≡ true →
-      heard_from (suc fuel) s here ≡ call ∷ heard_from fuel (afterward s call) (rest_of here)
+      heard_from (suc fuel) s here ≡ call ∷ heard_from fuel (after s call) (rest_of here)
   unfolding heard_from
   more fuel e = simp e
 
@@ -75,25 +81,25 @@ behind n text =
     drop-drop (9 * n) 9 text ∙ ap (λ (k : ℕ). drop k text) all
 
 -- how the log ends after k calls and those that are heard
-abbrev end_after : ℕ → History → List Call → List ℕ → List ℕ
-end_after k s calls text = ending (line_refusal (walk s calls) (drop (9 * length calls) text)) (k + length calls)
+abbrev end_after : ℕ → LockState → List Call → List ℕ → List ℕ
+end_after k s calls text = ending (line_refusal (run s calls) (drop (9 * length calls) text)) (k + length calls)
 
 -- the log from a later line on is as said, with these calls
-abbrev Along : ℕ → History → ℕ → List ℕ → List Call → Type 0
+abbrev Along : ℕ → LockState → ℕ → List ℕ → List Call → Type 0
 Along fuel s k text calls = log_from fuel s k text ≡ rows_of s calls ++ end_after k s calls text
 
-along_more : (fuel : ℕ) (s : History) (k b : ℕ) (text : List ℕ) (calls : List Call) →
+along_more : (fuel : ℕ) (s : LockState) (k b : ℕ) (text : List ℕ) (calls : List Call) →
     eqb (line_refusal s (b ∷ text)) 0 ≡ true →
-    Along fuel (afterward s (call_of (b ∷ text))) (suc k) (rest_of (b ∷ text)) calls →
+    Along fuel (after s (call_of (b ∷ text))) (suc k) (rest_of (b ∷ text)) calls →
     Along (suc fuel) s k (b ∷ text) (call_of (b ∷ text) ∷ calls)
-unfolding log_from rows_of walk
+unfolding log_from rows_of run
 along_more fuel s k b text calls e on =
     let here = b ∷ text in
     let c = call_of here in
-    let next = afterward s c in
-    let shows-it = shown next.lock c.event (whose s c) in
+    let next = after s c in
+    let shows-it = shown next c.event c.processor in
     let count : suc k + length calls ≡ k + suc (length calls) = omega arith in
-    let refusal : List ℕ → ℕ = λ t. line_refusal (walk next calls) t in
+    let refusal : List ℕ → ℕ = λ t. line_refusal (run next calls) t in
     simp (heard_turn s (k + 2) b text e)
     (ap (λ (l : List ℕ). shows-it ++ l)
     (on
@@ -101,18 +107,18 @@ along_more fuel s k b text calls e on =
     ∙ ap (λ (m : ℕ). rows_of next calls ++ ending (refusal (drop (9 * suc (length calls)) here)) m) count)
     ∙ sym (append_assoc shows-it (rows_of next calls) (end_after k s (c ∷ calls) here)))
 
-along_none : (fuel : ℕ) (s : History) (k b : ℕ) (text : List ℕ) → eqb (line_refusal s (b ∷ text)) 0 ≡ false →
+along_none : (fuel : ℕ) (s : LockState) (k b : ℕ) (text : List ℕ) → eqb (line_refusal s (b ∷ text)) 0 ≡ false →
     Along (suc fuel) s k (b ∷ text) []
-unfolding log_from rows_of walk
+unfolding log_from rows_of run
 along_none fuel s k b text e =
     let here = b ∷ text in
     let line : k + 2 ≡ k + 0 + 2 = omega arith in
     simp (unheard_turn s (k + 2) b text e, e)
     (append-nil (refused_at (line_refusal s here) (k + 2)) ∙ ap (refused_at (line_refusal s here)) line)
 
-along_heard : (fuel : ℕ) (s : History) (k b : ℕ) (text : List ℕ) →
-    Along fuel (afterward s (call_of (b ∷ text))) (suc k) (rest_of (b ∷ text))
-    (heard_from fuel (afterward s (call_of (b ∷ text))) (rest_of (b ∷ text))) →
+along_heard : (fuel : ℕ) (s : LockState) (k b : ℕ) (text : List ℕ) →
+    Along fuel (after s (call_of (b ∷ text))) (suc k) (rest_of (b ∷ text))
+    (heard_from fuel (after s (call_of (b ∷ text))) (rest_of (b ∷ text))) →
     Along (suc fuel) s k (b ∷ text) (heard_from (suc fuel) s (b ∷ text))
 along_heard fuel s k b text on =
     ⊎_elim
@@ -122,17 +128,17 @@ along_heard fuel s k b text on =
     subst (Along (suc fuel) s k (b ∷ text)) (sym (none s 0 b text fuel e)) (along_none fuel s k b text e))
     (cases (eqb (line_refusal s (b ∷ text)) 0))
 
-pub later_heard_log : (fuel : ℕ) (s : History) (k : ℕ) (text : List ℕ) → length text ≤ fuel →
+pub later_heard_log : (fuel : ℕ) (s : LockState) (k : ℕ) (text : List ℕ) → length text ≤ fuel →
     Along fuel s k text (heard_from fuel s text)
-unfolding log_from heard_from rows_of walk line_refusal
+unfolding log_from heard_from rows_of run line_refusal
 later_heard_log zero s k [] h = let same : k ≡ k + 0 = omega arith in ap counted same
 later_heard_log zero s k (b ∷ text) h = absurd (omega arith)
 later_heard_log (suc fuel) s k [] h = let same : k ≡ k + 0 = omega arith in ap counted same
 later_heard_log (suc fuel) s k (b ∷ text) h =
     along_heard fuel s k b text
-    (later_heard_log fuel (afterward s (call_of (b ∷ text))) (suc k) (rest_of (b ∷ text)) (omega (arith, length-drop 9 (b ∷ text))))
+    (later_heard_log fuel (after s (call_of (b ∷ text))) (suc k) (rest_of (b ∷ text)) (omega (arith, length-drop 9 (b ∷ text))))
 
-pub heard_accepted : (fuel : ℕ) (s : History) (text : List ℕ) → are_accepted s (heard_from fuel s text) ≡ true
+pub heard_accepted : (fuel : ℕ) (s : LockState) (text : List ℕ) → are_accepted s (heard_from fuel s text) ≡ true
 unfolding heard_from are_accepted
 heard_accepted zero s text = refl
 heard_accepted (suc fuel) s [] = refl
@@ -140,46 +146,46 @@ heard_accepted (suc fuel) s (b ∷ text) =
     let c = call_of (b ∷ text) in
     ⊎_elim
     (λ (e : eqb (line_refusal s (b ∷ text)) 0 ≡ true).
-    simp (e, heard_taken s 0 b text e) (heard_accepted fuel (afterward s c) (rest_of (b ∷ text))))
+    simp (e, heard_taken s 0 b text e) (heard_accepted fuel (after s c) (rest_of (b ∷ text))))
     (λ (e : eqb (line_refusal s (b ∷ text)) 0 ≡ false). simp e)
     (cases (eqb (line_refusal s (b ∷ text)) 0))
 
-pub rows_long : (s : History) (calls : List Call) → length (rows_of s calls) ≡ 17 * length calls
+pub rows_long : (s : LockState) (calls : List Call) → length (rows_of s calls) ≡ 17 * length calls
 unfolding rows_of
 rows_long s [] = refl
 rows_long s (c ∷ cs) =
-    length-append (shown (afterward s c).lock c.event (whose s c)) (rows_of (afterward s c) cs)
-    ∙ omega (arith, shown_size (afterward s c).lock c.event (whose s c), rows_long (afterward s c) cs)
+    length-append (shown (after s c) c.event c.processor) (rows_of (after s c) cs)
+    ∙ omega (arith, shown_size (after s c) c.event c.processor, rows_long (after s c) cs)
 
 -- nothing is left of the text behind these calls, where no refusal follows them
-abbrev AllHeard : History → List ℕ → List Call → Type 0
-AllHeard s text calls = line_refusal (walk s calls) (drop (9 * length calls) text) ≡ 0 → drop (9 * length calls) text ≡ []
+abbrev AllHeard : LockState → List ℕ → List Call → Type 0
+AllHeard s text calls = line_refusal (run s calls) (drop (9 * length calls) text) ≡ 0 → drop (9 * length calls) text ≡ []
 
-whole_heard : (fuel : ℕ) (s : History) (b : ℕ) (text : List ℕ) →
-    AllHeard (afterward s (call_of (b ∷ text))) (rest_of (b ∷ text))
-    (heard_from fuel (afterward s (call_of (b ∷ text))) (rest_of (b ∷ text))) →
+whole_heard : (fuel : ℕ) (s : LockState) (b : ℕ) (text : List ℕ) →
+    AllHeard (after s (call_of (b ∷ text))) (rest_of (b ∷ text))
+    (heard_from fuel (after s (call_of (b ∷ text))) (rest_of (b ∷ text))) →
     AllHeard s (b ∷ text) (heard_from (suc fuel) s (b ∷ text))
-unfolding walk
+unfolding run
 whole_heard fuel s b text on =
     let here = b ∷ text in
-    let next = afterward s (call_of here) in
+    let next = after s (call_of here) in
     let calls = heard_from fuel next (rest_of here) in
     ⊎_elim
     (λ (e : eqb (line_refusal s here) 0 ≡ true).
     subst (AllHeard s here) (sym (more s 0 b text fuel e))
-    (λ h. sym (behind (length calls) here) ∙ on (ap (line_refusal (walk next calls)) (behind (length calls) here) ∙ h)))
+    (λ h. sym (behind (length calls) here) ∙ on (ap (line_refusal (run next calls)) (behind (length calls) here) ∙ h)))
     (λ (e : eqb (line_refusal s here) 0 ≡ false).
     subst (AllHeard s here) (sym (none s 0 b text fuel e)) (λ h. clash (eq-eqb (line_refusal s here) 0 h) e))
     (cases (eqb (line_refusal s here) 0))
 
-pub heard_all : (fuel : ℕ) (s : History) (text : List ℕ) → length text ≤ fuel → AllHeard s text (heard_from fuel s text)
+pub heard_all : (fuel : ℕ) (s : LockState) (text : List ℕ) → length text ≤ fuel → AllHeard s text (heard_from fuel s text)
 unfolding heard_from
 heard_all zero s [] h = λ e. refl
 heard_all zero s (b ∷ text) h = absurd (omega arith)
 heard_all (suc fuel) s [] h = λ e. refl
 heard_all (suc fuel) s (b ∷ text) h =
     whole_heard fuel s b text
-    (heard_all fuel (afterward s (call_of (b ∷ text))) (rest_of (b ∷ text)) (omega (arith, length-drop 9 (b ∷ text))))
+    (heard_all fuel (after s (call_of (b ∷ text))) (rest_of (b ∷ text)) (omega (arith, length-drop 9 (b ∷ text))))
 
 -- the refusal of line 1, by its two tests
 module _ (text : List ℕ) where
@@ -235,8 +241,8 @@ module _ (text : List ℕ) where
         first_state_is h,
       )
       (ap (λ (l : List ℕ). first_line text ++ l)
-      (later_heard_log (length text) (first_history text) 0 (rest_of text) (omega (arith, length-drop 9 text))
-      ∙ ap (λ (m : ℕ). rows_of (first_history text) (heard_of text) ++ ending (refusal_of text) m) count))
+      (later_heard_log (length text) (first_state text) 0 (rest_of text) (omega (arith, length-drop 9 text))
+      ∙ ap (λ (m : ℕ). rows_of (first_state text) (heard_of text) ++ ending (refusal_of text) m) count))
 
   pub log_is_run : LogIsARun text
   unfolding log_of
@@ -246,8 +252,7 @@ module _ (text : List ℕ) where
         line_1_refused = refused_first;
         line_1_accepted = accepted_first;
         in_range = λ (h : first_refusal text ≡ 0). (first_run h).range;
-        heard_accepted = heard_accepted (length text) (first_history text) (rest_of text);
-        row_for_each = rows_long (first_history text) (heard_of text);
-        survivors_run = λ (h : first_refusal text ≡ 0). survivors_give (first_state text) (first_whole h) (heard_of text);
-        to_the_end = heard_all (length text) (first_history text) (rest_of text) (omega (arith, length-drop 9 text));
+        heard_accepted = heard_accepted (length text) (first_state text) (rest_of text);
+        row_for_each = rows_long (first_state text) (heard_of text);
+        to_the_end = heard_all (length text) (first_state text) (rest_of text) (omega (arith, length-drop 9 text));
       }

@@ -12,7 +12,6 @@ pub mod Hearing
 pub mod Heard
 pub mod Verdict
 pub mod Along
-pub mod Before
 pub mod Case
 pub mod Upper
 pub mod Proved

@@ -1,6 +1,8 @@
 -- The statements of `specs/Laws.antt`, `specs/Bridge.antt` and `specs/Case.antt`, each with its proof.
 -- Assumes nothing.
-use Rattle.std.proofs.Common.{length, sym, ap, ◌∙◌, arith}
+use native.Mathlib.Omega.{arith}
+use mathlib.Core.Path.{sym, ap, ◌∙◌}
+use lib.ListN.{length}
 use Rattle.bench.specs.Log.{log_of}
 use Rattle.bench.specs.Laws.{FuelDoesNotMatter, LogFitsItsRoom, OnlyOneAnswerFits}
 use Rattle.bench.specs.Bridge.{EveryLogIsARun, AcceptedLogIsARun, RowsFollowTheRun, EntryMarkIsAnEntry}
@@ -32,10 +34,10 @@ pub accepted_log_is_a_run : AcceptedLogIsARun
 accepted_log_is_a_run text h = accepted_is_run text h
 
 pub rows_follow_the_run : RowsFollowTheRun
-rows_follow_the_run = rows_follow
+rows_follow_the_run s before c = rows_follow s before c
 
 pub entry_mark_is_an_entry : EntryMarkIsAnEntry
-entry_mark_is_an_entry h c z = entry_mark h c z
+entry_mark_is_an_entry s c h = entry_mark s c h
 
 pub case_does_not_matter : CaseDoesNotMatter
 case_does_not_matter =

@@ -2,11 +2,18 @@
 --     later_fits   from a later line on: 17 bytes for each whole line and 11 more
 --     log_fits     the whole log, of a schedule of any length
 -- Assumes nothing.
-use Rattle.std.proofs.Common.{◌≡◌, ℕ, zero, suc, ◌+◌, ◌≤◌, true, false, eqb, ltb, List, [], ◌∷◌, length, ⊎_elim, arith, length-append, length-drop, eqb-true}
+use Prim.Native.Nat.{ℕ, zero, suc, ◌+◌, ◌≤◌}
+use native.Mathlib.Omega.{arith}
+use mathlib.Core.Logic.{⊎_elim}
+use mathlib.Core.Path.{◌≡◌}
+use mathlib.Core.Bool.{true, false}
+use mathlib.Core.List.{List, [], ◌∷◌}
+use lib.ListN.{length, length-append, length-drop}
+use lib.Dec.{eqb, ltb}
+use borrow.Author.Tests.{eqb-true}
 use Rattle.choice.proofs.Tests.{cases}
-use Rattle.history.specs.declared.History.{History}
+use Rattle.lock.specs.declared.LockState.{LockState}
 use Rattle.lock.specs.Event.{fresh}
-use Rattle.history.specs.Event.{unwritten}
 use Rattle.frame.specs.Reading.{reads, rest_of}
 use Rattle.frame.specs.Writing.{header_line}
 use Rattle.frame.proofs.Proved.{lengths_are_known}
@@ -15,7 +22,7 @@ use Rattle.bench.specs.Lent.{room_for}
 use Rattle.bench.specs.Steps.{lines_room}
 use Rattle.bench.proofs.Sizes.{count_size, refusal_size, whole_nine, GoesOn, Stops, turn_size}
 
-pub later_fits : (fuel : ℕ) (s : History) (accepted : ℕ) (text : List ℕ) →
+pub later_fits : (fuel : ℕ) (s : LockState) (accepted : ℕ) (text : List ℕ) →
     length (log_from fuel s accepted text) ≤ lines_room text
 unfolding log_from
 later_fits zero s accepted text = omega (arith, count_size accepted)
@@ -34,7 +41,7 @@ begun_fits : (text : List ℕ) (edition n : ℕ) → 9 ≤ length text → lengt
 unfolding begun
 begun_fits text edition n h =
     let a = fresh edition n in
-    let more = log_from (length text) (unwritten a.state) 0 (rest_of text) in
+    let more = log_from (length text) a.state 0 (rest_of text) in
     ⊎_elim
     (λ (e : eqb a.refusal 0 ≡ true).
     simp e
@@ -43,7 +50,7 @@ begun_fits text edition n h =
       length-append (header_line edition n) more,
       lengths_are_known.header edition n,
       length-drop 9 text,
-      later_fits (length text) (unwritten a.state) 0 (rest_of text),
+      later_fits (length text) a.state 0 (rest_of text),
     )))
     (λ (e : eqb a.refusal 0 ≡ false). simp e (omega (arith, refusal_size a.refusal 1)))
     (cases (eqb a.refusal 0))

@@ -3,14 +3,20 @@
 --     whole_nine                           a line that is read without refusal has its nine bytes
 --     turn_size                            a turn goes on after 17 bytes, from nine of the text, or stops after 11
 -- Assumes nothing.
-use Rattle.std.proofs.Common.{◌≡◌, ℕ, ◌≤◌, Bool, true, false, eqb, ◌⊎◌, List, length, inl, inr, ⊎_elim, eqb-true}
+use Prim.Native.Nat.{ℕ, ◌≤◌}
+use mathlib.Core.Path.{◌≡◌}
+use mathlib.Core.Logic.{◌⊎◌, inl, inr, ⊎_elim}
+use mathlib.Core.Bool.{Bool, true, false}
+use mathlib.Core.List.{List}
+use lib.ListN.{length}
+use lib.Dec.{eqb}
+use borrow.Author.Tests.{eqb-true}
 use Rattle.choice.proofs.Tests.{cases}
 use Rattle.lock.specs.declared.Row.{Row}
 use Rattle.lock.specs.declared.LockState.{LockState}
+use Rattle.lock.specs.declared.Answer.{Answer}
 use Rattle.lock.specs.State.{row}
-use Rattle.history.specs.declared.History.{History}
-use Rattle.history.specs.declared.Outcome.{Outcome}
-use Rattle.history.specs.Event.{goes}
+use Rattle.lock.specs.Event.{happens}
 use Rattle.frame.specs.Reading.{kind_of, reads}
 use Rattle.frame.proofs.Refusals.{whole_line, by_order}
 use Rattle.frame.proofs.Proved.{lengths_are_known}
@@ -41,25 +47,25 @@ GoesOn t = (t.goes_on ≡ true) × (length t.written ≡ 17)
 abbrev pub Stops : Turn → Type 0
 Stops t = (t.goes_on ≡ false) × (length t.written ≡ 11)
 
-answered_size : (h : History) (line event : ℕ) (a : Outcome) →
-    GoesOn (answered h line event a) ⊎ Stops (answered h line event a)
+answered_size : (s : LockState) (line event p : ℕ) (a : Answer) →
+    GoesOn (answered s line event p a) ⊎ Stops (answered s line event p a)
 unfolding answered
-answered_size h line event a =
+answered_size s line event p a =
     ⊎_elim
-    (λ (e : eqb a.refusal 0 ≡ true). inl (simp e, simp e (shown_size a.state.lock event a.processor)))
+    (λ (e : eqb a.refusal 0 ≡ true). inl (simp e, simp e (shown_size a.state event p)))
     (λ (e : eqb a.refusal 0 ≡ false). inr (simp e, simp e (refusal_size a.refusal line)))
     (cases (eqb a.refusal 0))
 
-pub turn_size : (h : History) (line : ℕ) (text : List ℕ) →
-    (GoesOn (turn_of h line text) × (9 ≤ length text)) ⊎ Stops (turn_of h line text)
+pub turn_size : (s : LockState) (line : ℕ) (text : List ℕ) →
+    (GoesOn (turn_of s line text) × (9 ≤ length text)) ⊎ Stops (turn_of s line text)
 unfolding turn_of followed
-turn_size h line text =
+turn_size s line text =
     let t = reads text false in
-    let a = answered h line (second t) (goes h (second t) (third t)) in
+    let a = answered s line (second t) (third t) (happens s (second t) (third t)) in
     ⊎_elim
     (λ (e : eqb t.refusal 0 ≡ true).
     ⊎_elim (λ (g : GoesOn a). inl (simp e g, whole_nine text false (eqb-true t.refusal 0 e)))
     (λ (g : Stops a). inr (simp e g))
-    (answered_size h line (second t) (goes h (second t) (third t))))
+    (answered_size s line (second t) (third t) (happens s (second t) (third t))))
     (λ (e : eqb t.refusal 0 ≡ false). inr (simp e, simp e (refusal_size t.refusal line)))
     (cases (eqb t.refusal 0))

@@ -3,32 +3,35 @@
 --     row_upper                      the 03 line of a processor in a sound state
 --     log_upper                      the whole log
 -- Assumes nothing.
-use Rattle.std.proofs.Common.{◌≡◌, ℕ, ◌+◌, ◌<◌, ◌≤◌, Bool, true, false, cond, not, ◌&&◌, ◌||◌, eqb, ltb, leb, ◌≢◌, List, [], ◌∷◌, ◌++◌, length, take, sym, refl, ap, ◌∙◌, subst, ⊎_elim, arith, ltb-false, ltb-true, eqb-true, leb-false, leb-true}
-use borrow.Author.Tests.{eqb-false}
+use Prim.Native.Nat.{ℕ, ◌+◌, ◌<◌, ◌≤◌}
+use native.Mathlib.Omega.{arith}
+use mathlib.Core.Path.{◌≡◌, refl, sym, ap, subst, ◌∙◌}
+use mathlib.Core.Logic.{◌≢◌, ⊎_elim}
+use mathlib.Core.Bool.{Bool, true, false, cond, not, ◌&&◌, ◌||◌}
+use mathlib.Core.List.{List, [], ◌∷◌, ◌++◌}
+use lib.ListN.{length, take}
+use lib.Dec.{eqb, ltb, leb}
+use borrow.Author.Tests.{eqb-true, eqb-false, ltb-true, ltb-false, leb-true, leb-false}
 use Rattle.choice.proofs.Tests.{cases, clash, and_left, and_right, by_test}
 use Rattle.lock.specs.declared.Row.{Row}
 use Rattle.lock.specs.declared.LockState.{LockState}
 use Rattle.lock.specs.declared.Answer.{Answer}
 use Rattle.lock.specs.State.{processors, editions, is_none, RP, row}
 use Rattle.lock.specs.Sound.{places, none_or_below, has_place, sound}
-use Rattle.lock.specs.Event.{is_step, is_raise, fresh, carried}
+use Rattle.lock.specs.Event.{is_step, is_raise, fresh, happens}
 use Rattle.lock.specs.Kept.{Whole}
-use Rattle.lock.specs.Run.{Call}
+use Rattle.lock.specs.Run.{Call, after, run}
 use Rattle.lock.proofs.Ground.Editions.{has_beyond}
 use Rattle.lock.proofs.Keeping.Parts.{ready}
-use Rattle.history.specs.declared.History.{History}
-use Rattle.history.specs.declared.Outcome.{Outcome}
-use Rattle.history.specs.Event.{is_undo, is_whole, brings_back, stepped_back, undone, recorded, goes}
-use Rattle.history.specs.Journal.{newest}
-use Rattle.history.specs.Survivors.{afterward, walk}
-use Rattle.history.proofs.Keeping.{event_kept}
+use Rattle.lock.proofs.Keeping.{event_kept}
+use Rattle.lock.proofs.Waiting.Stepping.{size_after}
 use Rattle.frame.specs.Case.{upper_case}
 use Rattle.frame.specs.Reading.{kind_of, reads}
 use Rattle.frame.specs.Laws.{InUpperCase}
 use Rattle.frame.proofs.Refusals.{by_order}
 use Rattle.frame.proofs.Case.{upper_append, upper_twice, in_upper, line_upper}
 use Rattle.bench.specs.Log.{longest, high, low, refused_at, counted, marks_of, row_shown, shown, log_of}
-use Rattle.bench.specs.Bridge.{whose, rows_of, are_accepted, edition_of, processors_of, first_history, first_refusal, line_refusal, heard_of, unheard_of, refusal_of, ending, first_line}
+use Rattle.bench.specs.Bridge.{rows_of, are_accepted, edition_of, processors_of, first_state, first_refusal, line_refusal, heard_of, unheard_of, refusal_of, ending, first_line}
 use Rattle.bench.proofs.Hearing.{first_is_read, first_whole, log_is_run}
 use Rattle.bench.proofs.Case.{line_1_is}
 
@@ -66,40 +69,24 @@ fresh_small edition n =
     by_test Small (leb editions edition) (λ _. omega arith)
     (λ _. by_test Small (eqb n 0 || ltb processors n) (λ _. omega arith) (λ _. omega arith))
 
-carried_small : (s : LockState) (event p : ℕ) → Small (carried s event p)
-carried_small s event p =
-    by_test Small (not (is_step event || is_raise event)) (λ _. omega arith)
-    (λ _. by_test Small (leb s.n p) (λ _. omega arith) (λ _. omega arith))
-
--- and so is every refusal of an event, its tests in their order
-abbrev SmallOutcome : Outcome → Type 0
-SmallOutcome o = o.refusal < 256
-
-goes_small : (s : History) (event p : ℕ) → SmallOutcome (goes s event p)
-unfolding goes undone stepped_back recorded
-goes_small s event p =
-    let a = carried s.lock event p in
-    by_test SmallOutcome (not (is_whole s)) (λ _. omega arith)
-    (λ _.
-    by_test SmallOutcome (is_undo event)
-    (λ _.
-    by_test SmallOutcome (not (eqb p 0)) (λ _. omega arith)
-    (λ _.
-    by_test SmallOutcome (eqb s.journal.depth 0) (λ _. omega arith)
-    (λ _. by_test SmallOutcome (brings_back s.lock (newest s.journal)) (λ _. omega arith) (λ _. omega arith))))
-    (λ _. by_test SmallOutcome (eqb a.refusal 0) (λ _. omega arith) (λ _. carried_small s.lock event p)))
+happens_small : (s : LockState) (event p : ℕ) → Small (happens s event p)
+unfolding happens
+happens_small s event p =
+    by_test Small (not (sound s)) (λ _. omega arith)
+    (λ _. by_test Small (not (is_step event || is_raise event)) (λ _. omega arith)
+    (λ _. by_test Small (leb s.n p) (λ _. omega arith) (λ _. omega arith)))
 
 first_small : (text : List ℕ) → first_refusal text < 256
 first_small text =
     by_test (λ (k : ℕ). k < 256) (eqb (reads text true).refusal 0)
     (λ _. fresh_small (edition_of text) (processors_of text)) (λ _. read_small text true)
 
-line_small : (s : History) (text : List ℕ) → line_refusal s text < 256
+line_small : (s : LockState) (text : List ℕ) → line_refusal s text < 256
 unfolding line_refusal
 line_small s [] = omega arith
 line_small s (b ∷ text) =
     by_test (λ (k : ℕ). k < 256) (eqb (reads (b ∷ text) false).refusal 0)
-    (λ _. goes_small s _ _) (λ _. read_small (b ∷ text) false)
+    (λ _. happens_small s _ _) (λ _. read_small (b ∷ text) false)
 
 -- the row of a processor of a sound state
 
@@ -141,19 +128,33 @@ row_upper s event p w below =
     line_upper (3 ∷ p ∷ own.place ∷ s.tail ∷ own.locked ∷ own.next ∷ marks_of own event ∷ [])
     (omega arith, (omega arith, (place, (tail, (locked, (next, (marks_small own event, tt)))))))
 
--- along a walk
+-- along a run
 
-rows_upper : (s : History) (cs : List Call) → Whole s.lock → are_accepted s cs ≡ true → Upper (rows_of s cs)
-unfolding rows_of are_accepted upper_case afterward
+far_refused : (s : LockState) (event p : ℕ) → leb s.n p ≡ true → (happens s event p).refusal ≢ 0
+unfolding happens
+far_refused s event p far =
+    let turned : Answer → Type 0 = λ a. a.refusal ≢ 0 in
+    simp far
+    (by_test turned (not (sound s)) (λ _ z. omega arith)
+    (λ _. by_test turned (not (is_step event || is_raise event)) (λ _ z. omega arith) (λ _ z. omega arith)))
+
+taken_below : (s : LockState) (event p : ℕ) → (happens s event p).refusal ≡ 0 → p < s.n
+taken_below s event p h =
+    ⊎_elim (λ (far : leb s.n p ≡ true). absurd (far_refused s event p far h))
+    (leb-false s.n p)
+    (cases (leb s.n p))
+
+rows_upper : (s : LockState) (cs : List Call) → Whole s → are_accepted s cs ≡ true → Upper (rows_of s cs)
+unfolding rows_of are_accepted upper_case after
 rows_upper s [] w e = refl
 rows_upper s (c ∷ cs) w e =
-    let taken = eqb (goes s c.event c.processor).refusal 0 in
-    let on = are_accepted (afterward s c) cs in
-    let kept = event_kept s c.event c.processor w (eqb-true _ 0 (and_left taken on e)) in
-    let below : whose s c < (afterward s c).lock.n = omega (arith, kept.below, kept.size) in
-    both (shown (afterward s c).lock c.event (whose s c)) (rows_of (afterward s c) cs)
-    (row_upper (afterward s c).lock c.event (whose s c) kept.whole below)
-    (rows_upper (afterward s c) cs kept.whole (and_right taken on e))
+    let taken = eqb (happens s c.event c.processor).refusal 0 in
+    let on = are_accepted (after s c) cs in
+    let kept = event_kept s c.event c.processor w in
+    let below = taken_below s c.event c.processor (eqb-true _ 0 (and_left taken on e)) in
+    both (shown (after s c) c.event c.processor) (rows_of (after s c) cs)
+    (row_upper (after s c) c.event c.processor kept (omega (arith, below, size_after s c w.rooms)))
+    (rows_upper (after s c) cs kept (and_right taken on e))
 
 ending_upper : (refusal accepted : ℕ) → refusal < 256 → Upper (ending refusal accepted)
 ending_upper refusal accepted h =
@@ -167,13 +168,13 @@ module _ (text : List ℕ) where
 
   accepted_upper : length text ≤ longest → first_refusal text ≡ 0 → Upper (log_of text)
   accepted_upper fits h =
-      let rows = rows_of (first_history text) (heard_of text) in
+      let rows = rows_of (first_state text) (heard_of text) in
       let end = ending (refusal_of text) (length (heard_of text)) in
-      let small = line_small (walk (first_history text) (heard_of text)) (unheard_of text) in
+      let small = line_small (run (first_state text) (heard_of text)) (unheard_of text) in
       subst Upper (sym ((log_is_run text).line_1_accepted fits h))
       (both (first_line text) (rows ++ end) (header_upper h)
       (both rows end
-      (rows_upper (first_history text) (heard_of text) (first_whole text h) (log_is_run text).heard_accepted)
+      (rows_upper (first_state text) (heard_of text) (first_whole text h) (log_is_run text).heard_accepted)
       (ending_upper (refusal_of text) (length (heard_of text)) small)))
 
   fitting_upper : length text ≤ longest → Upper (log_of text)

@@ -1,9 +1,14 @@
 -- The log ends with what the verdict tells, from the log as a run: by whether the text is too long, line 1 refused, a later line.
 -- Assumes nothing.
-use Rattle.std.proofs.Common.{◌≡◌, ℕ, ◌+◌, Bool, true, false, cond, not, ◌||◌, eqb, ltb, List, [], ◌++◌, length, sym, refl, ap, ◌∙◌, append_assoc, ltb-false, ltb-true, eqb-true}
-use borrow.Author.Tests.{eqb-false}
+use Prim.Native.Nat.{ℕ, ◌+◌}
+use mathlib.Core.Path.{◌≡◌, refl, sym, ap, ◌∙◌}
+use mathlib.Core.Bool.{Bool, true, false, cond, not, ◌||◌}
+use mathlib.Core.List.{List, [], ◌++◌, append_assoc}
+use lib.ListN.{length}
+use lib.Dec.{eqb, ltb}
+use borrow.Author.Tests.{eqb-true, eqb-false, ltb-true, ltb-false}
 use Rattle.bench.specs.Log.{longest, refused_at, counted, log_of}
-use Rattle.bench.specs.Bridge.{first_history, first_refusal, heard_of, refusal_of, rows_of, ending, first_line}
+use Rattle.bench.specs.Bridge.{first_state, first_refusal, heard_of, refusal_of, rows_of, ending, first_line}
 use Rattle.bench.specs.Verdict.{Verdict, at, verdict_of, LogTellsTheVerdict}
 use Rattle.bench.proofs.Hearing.{log_is_run}
 
@@ -21,7 +26,7 @@ module _ (text : List ℕ) where
   end_by v = cond (eqb v.refusal 0) (counted heard) (refused_at v.refusal v.line)
 
   abbrev shown_by : Bool → Bool → List ℕ
-  shown_by long first = cond (long || not first) [] (first_line text ++ rows_of (first_history text) (heard_of text))
+  shown_by long first = cond (long || not first) [] (first_line text ++ rows_of (first_state text) (heard_of text))
 
   -- of the later lines it is the end as the run has it
   end_is :
@@ -39,8 +44,8 @@ module _ (text : List ℕ) where
       ∙ sym (ap (λ (b : Bool). cond b (counted heard) (refused_at (first_refusal text) 1)) f)
   by_tests false true l f =
       (log_is_run text).line_1_accepted (ltb-false longest (length text) l) (eqb-true (first_refusal text) 0 f)
-      ∙ sym (append_assoc (first_line text) (rows_of (first_history text) (heard_of text)) (ending (refusal_of text) heard))
-      ∙ ap (λ (e : List ℕ). first_line text ++ rows_of (first_history text) (heard_of text) ++ e)
+      ∙ sym (append_assoc (first_line text) (rows_of (first_state text) (heard_of text)) (ending (refusal_of text) heard))
+      ∙ ap (λ (e : List ℕ). first_line text ++ rows_of (first_state text) (heard_of text) ++ e)
       (sym (end_is (eqb (refusal_of text) 0) refl))
 
 pub log_tells_the_verdict : LogTellsTheVerdict

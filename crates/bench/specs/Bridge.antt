@@ -1,22 +1,17 @@
--- What the bench does with a schedule is a walk of history's Survivors, as far as the schedule goes: each later line asks for a call,
--- an undo among them; the 03 lines are the rows along the walk from the fresh state of line 1, and the end tells the number of calls
--- or the first refusal. The walk's lock is, at every line, the run of the events not undone up to it. So what is proved of every run is
--- proved of what every log shows, also of one that ends in a refusal.
---     EveryLogIsARun        every log: line 1, the rows along the walk of the calls heard, the count or the refusal; and the state it
---                           leads to is the run of the events not undone
---     AcceptedLogIsARun     so a log with no refusal is line 1, the rows along its walk, the number of its calls
---     RowsFollowTheRun      the row after each call shows the run of the events not undone up to it
---     EntryMarkIsAnEntry    the mark 4 is given exactly where the call is an entry, and never at an undo
-use Rattle.std.specs.Prelude.{◌≡◌, ℕ, zero, suc, ◌+◌, ◌*◌, ◌<◌, ◌≤◌, Bool, true, false, cond, ◌&&◌, ◌≢◌, ◌↔◌, List, [], ◌∷◌, ◌++◌, length, drop, ◌==◌}
+-- What the bench does with a schedule is a run of lock's Run, as far as the schedule goes: each later line asks for a
+-- call, the 03 lines are the rows along the run from the fresh state of line 1, and the end tells the number of calls or
+-- the first refusal. So what is proved of every run is proved of what every log shows, also of one that ends in a
+-- refusal.
+--     EveryLogIsARun        every log: line 1, the rows along the run of the calls heard, the count or the refusal
+--     AcceptedLogIsARun     so a log with no refusal is line 1, the rows along its run, the number of its calls
+--     RowsFollowTheRun      the row after each call shows the state that the run has then
+--     EntryMarkIsAnEntry    the mark 4 is given exactly where the call is an entry
+use Rattle.std.specs.Prelude.{ℕ, zero, suc, ◌+◌, ◌*◌, ◌≤◌, ◌<◌, ◌≡◌, ◌↔◌, ◌≢◌, Bool, true, false, cond, ◌&&◌, List, [], ◌∷◌, ◌++◌, length, drop, eqb}
 use Rattle.lock.specs.declared.LockState.{LockState}
 use Rattle.lock.specs.State.{fresh_state, row}
-use Rattle.lock.specs.Event.{fresh}
-use Rattle.lock.specs.Run.{Call, enters}
-use Rattle.lock.specs.Claims.{AnyEdition, reached}
-use Rattle.history.specs.declared.History.{History}
-use Rattle.history.specs.Event.{unwritten, is_undo, goes}
-use Rattle.history.specs.Survivors.{survivors, who_in, afterward, walk}
-use Rattle.history.specs.Claims.{not_undone}
+use Rattle.lock.specs.Event.{fresh, happens}
+use Rattle.lock.specs.Run.{Call, after, run, enters}
+use Rattle.lock.specs.Claims.{AnyEdition}
 use Rattle.frame.specs.Reading.{reads, rest_of}
 use Rattle.frame.specs.Writing.{header_line}
 use Rattle.bench.specs.Log.{longest, refused_at, counted, marks, shown, second, third, log_of}
@@ -25,19 +20,15 @@ use Rattle.bench.specs.Log.{longest, refused_at, counted, marks, shown, second, 
 abbrev pub call_of : List ℕ → Call
 call_of text = record { event = second (reads text false); processor = third (reads text false) }
 
--- whose row the call's 03 line shows: the processor that the answer names
-abbrev pub whose : History → Call → ℕ
-whose h c = (goes h c.event c.processor).processor
+-- the 03 lines along a run: after each call, the row of its processor
+unfoldable pub rows_of : LockState → List Call → List ℕ
+rows_of s [] = []
+rows_of s (c ∷ cs) = shown (after s c) c.event c.processor ++ rows_of (after s c) cs
 
--- the 03 lines along a walk: after each call, the row that its answer names
-unfoldable pub rows_of : History → List Call → List ℕ
-rows_of h [] = []
-rows_of h (c ∷ cs) = shown (afterward h c).lock c.event (whose h c) ++ rows_of (afterward h c) cs
-
--- every call of a walk is accepted
-unfoldable pub are_accepted : History → List Call → Bool
-are_accepted h [] = true
-are_accepted h (c ∷ cs) = (goes h c.event c.processor).refusal == 0 && are_accepted (afterward h c) cs
+-- every call of a run is accepted
+unfoldable pub are_accepted : LockState → List Call → Bool
+are_accepted s [] = true
+are_accepted s (c ∷ cs) = eqb (happens s c.event c.processor).refusal 0 && are_accepted (after s c) cs
 
 -- edition and N of line 1
 abbrev pub edition_of : List ℕ → ℕ
@@ -46,63 +37,56 @@ edition_of text = second (reads text true)
 abbrev pub processors_of : List ℕ → ℕ
 processors_of text = third (reads text true)
 
--- the state from which a schedule's run begins, and the same with its empty journal
+-- the state from which a schedule's run begins
 abbrev pub first_state : List ℕ → LockState
 first_state text = fresh_state (edition_of text) (processors_of text)
-
-abbrev pub first_history : List ℕ → History
-first_history text = unwritten (first_state text)
 
 -- the refusal of line 1: the reader's, or else that of the fresh state; 0 for none
 abbrev pub first_refusal : List ℕ → ℕ
 first_refusal text =
     let read = (reads text true).refusal in
-    cond (read == 0) (fresh (edition_of text) (processors_of text)).refusal read
+    cond (eqb read 0) (fresh (edition_of text) (processors_of text)).refusal read
 
--- the refusal of the later line at the beginning of the text, in the state h: the reader's, or else that of the call; 0 for none.
--- "After the last line the end is no refusal."
-unfoldable pub line_refusal : History → List ℕ → ℕ
-line_refusal h [] = 0
-line_refusal h (b ∷ text) =
+-- the refusal of the later line at the beginning of the text, in the state s: the reader's, or else the lock's of the
+-- call; 0 for none. "After the last line the end is no refusal."
+unfoldable pub line_refusal : LockState → List ℕ → ℕ
+line_refusal s [] = 0
+line_refusal s (b ∷ text) =
     let c = call_of (b ∷ text) in
     let read = (reads (b ∷ text) false).refusal in
-    cond (read == 0) (goes h c.event c.processor).refusal read
+    cond (eqb read 0) (happens s c.event c.processor).refusal read
 
 -- The calls that are heard: those of the lines from a later one on, up to the first line that is refused. The fuel
 -- bounds the lines, as in the log.
-unfoldable pub heard_from : ℕ → History → List ℕ → List Call
-heard_from zero h text = []
-heard_from (suc fuel) h [] = []
-heard_from (suc fuel) h (b ∷ text) =
+unfoldable pub heard_from : ℕ → LockState → List ℕ → List Call
+heard_from zero s text = []
+heard_from (suc fuel) s [] = []
+heard_from (suc fuel) s (b ∷ text) =
     let c = call_of (b ∷ text) in
-    cond (line_refusal h (b ∷ text) == 0) (c ∷ heard_from fuel (afterward h c) (rest_of (b ∷ text))) []
+    cond (eqb (line_refusal s (b ∷ text)) 0) (c ∷ heard_from fuel (after s c) (rest_of (b ∷ text))) []
 
--- the calls that are heard of a schedule
+-- the calls that are heard of a schedule, the text behind their lines, and the refusal of the line with which that text
+-- begins; 0 at its end
 abbrev pub heard_of : List ℕ → List Call
-heard_of text = heard_from (length text) (first_history text) (rest_of text)
+heard_of text = heard_from (length text) (first_state text) (rest_of text)
 
--- and those of them that are not undone
-abbrev pub survivors_of : List ℕ → List Call
-survivors_of text = survivors (first_state text) (heard_of text)
-
--- the text behind their lines, and the refusal of the line with which that text begins; 0 at its end
 abbrev pub unheard_of : List ℕ → List ℕ
 unheard_of text = drop (9 * length (heard_of text)) (rest_of text)
 
 abbrev pub refusal_of : List ℕ → ℕ
-refusal_of text = line_refusal (walk (first_history text) (heard_of text)) (unheard_of text)
+refusal_of text = line_refusal (run (first_state text) (heard_of text)) (unheard_of text)
 
 -- "04 .. the number of accepted events, at the end", or "05 .. the refusal and its line": lines 2 on were accepted
 abbrev pub ending : ℕ → ℕ → List ℕ
-ending refusal accepted = cond (refusal == 0) (counted accepted) (refused_at refusal (accepted + 2))
+ending refusal accepted = cond (eqb refusal 0) (counted accepted) (refused_at refusal (accepted + 2))
 
 -- request [3]: "the 01 line as the writer gives it", of the numbers read
 abbrev pub first_line : List ℕ → List ℕ
 first_line text = header_line (edition_of text) (processors_of text)
 
--- and what follows it: the rows along the walk of the calls that are heard, and the end
+-- and what follows it: the rows along the run of the calls that are heard, and the end
 abbrev pub later_lines : List ℕ → List ℕ
-later_lines text = rows_of (first_history text) (heard_of text) ++ ending (refusal_of text) (length (heard_of text))
+later_lines text = rows_of (first_state text) (heard_of text) ++ ending (refusal_of text) (length (heard_of text))
 
 -- What the log of any text is, by what is refused first, and what the calls are that are heard.
 pub record LogIsARun (text : List ℕ) : Type 0 where
@@ -116,13 +100,10 @@ pub record LogIsARun (text : List ℕ) : Type 0 where
   -- then edition and N are in range, so that the claims on runs speak of this one
   pub in_range : first_refusal text ≡ 0 → AnyEdition (edition_of text) (processors_of text)
   -- every call that is heard is accepted, and has its row of 17 bytes
-  pub heard_accepted : are_accepted (first_history text) (heard_of text) ≡ true
-  pub row_for_each : length (rows_of (first_history text) (heard_of text)) ≡ 17 * length (heard_of text)
+  pub heard_accepted : are_accepted (first_state text) (heard_of text) ≡ true
+  pub row_for_each : length (rows_of (first_state text) (heard_of text)) ≡ 17 * length (heard_of text)
   -- and where there is no refusal, all of the text is heard
   pub to_the_end : refusal_of text ≡ 0 → unheard_of text ≡ []
-  -- [6] the state that they lead to, journal aside, is that of the events not undone
-  pub survivors_run : first_refusal text ≡ 0 →
-      (walk (first_history text) (heard_of text)).lock ≡ reached (edition_of text) (processors_of text) (survivors_of text)
 
 abbrev pub EveryLogIsARun : Type 0
 EveryLogIsARun = (text : List ℕ) → LogIsARun text
@@ -141,7 +122,7 @@ calls_of text = calls_from (length text) (rest_of text)
 unfoldable pub are_read : ℕ → List ℕ → Bool
 are_read zero text = true
 are_read (suc fuel) [] = true
-are_read (suc fuel) (b ∷ text) = (reads (b ∷ text) false).refusal == 0 && are_read fuel (rest_of (b ∷ text))
+are_read (suc fuel) (b ∷ text) = eqb (reads (b ∷ text) false).refusal 0 && are_read fuel (rest_of (b ∷ text))
 
 -- no refusal anywhere: not for the length, not at line 1, not at a later line
 pub record Accepted (text : List ℕ) : Type 0 where
@@ -149,34 +130,28 @@ pub record Accepted (text : List ℕ) : Type 0 where
   pub line_is : (reads text true).refusal ≡ 0
   pub state_is : (fresh (edition_of text) (processors_of text)).refusal ≡ 0
   pub lines_are : are_read (length text) (rest_of text) ≡ true
-  pub calls_are : are_accepted (first_history text) (calls_of text) ≡ true
+  pub calls_are : are_accepted (first_state text) (calls_of text) ≡ true
 
 abbrev pub AcceptedLogIsARun : Type 0
 AcceptedLogIsARun =
     (text : List ℕ) → Accepted text →
     log_of text
     ≡ first_line text
-    ++ (rows_of (first_history text) (calls_of text) ++ counted (length (calls_of text)))
+    ++ (rows_of (first_state text) (calls_of text) ++ counted (length (calls_of text)))
 
--- of calls from the fresh state, the last of them accepted; for an undo the row is that of the event that it takes back (`who_in`)
 abbrev pub RowsFollowTheRun : Type 0
 RowsFollowTheRun =
-    (e n : ℕ) (before : List Call) (c : Call) → AnyEdition e n →
-    (goes (walk (unwritten (fresh_state e n)) before) c.event c.processor).refusal ≡ 0 →
-    rows_of (unwritten (fresh_state e n)) (before ++ (c ∷ []))
-    ≡ rows_of (unwritten (fresh_state e n)) before
-    ++ shown (reached e n (not_undone e n (before ++ (c ∷ [])))) c.event (who_in (fresh_state e n) before c)
+    (s : LockState) (before : List Call) (c : Call) →
+    rows_of s (before ++ (c ∷ [])) ≡ rows_of s before ++ shown (run s (before ++ (c ∷ []))) c.event c.processor
 
--- of an accepted call: the marks of the row that is shown after it
-pub record EntryMark (h : History) (c : Call) : Type 0 where
-  pub sum : marks (afterward h c).lock c.event (whose h c)
-      ≡ cond (row (afterward h c).lock (whose h c)).flag 1 0
-      + cond (row (afterward h c).lock (whose h c)).guard 2 0
-      + cond (enters h.lock c (whose h c)) 4 0
-  pub given : (4 ≤ marks (afterward h c).lock c.event (whose h c)) ↔ (enters h.lock c (whose h c) ≡ true)
-  -- "without the entry mark"
-  pub undone : is_undo c.event ≡ true → marks (afterward h c).lock c.event (whose h c) < 4
+-- of an accepted call: the marks of its processor's row after it
+pub record EntryMark (s : LockState) (c : Call) : Type 0 where
+  pub sum : marks (after s c) c.event c.processor
+      ≡ cond (row (after s c) c.processor).flag 1 0
+      + cond (row (after s c) c.processor).guard 2 0
+      + cond (enters s c c.processor) 4 0
+  pub given : (4 ≤ marks (after s c) c.event c.processor) ↔ (enters s c c.processor ≡ true)
 
 abbrev pub EntryMarkIsAnEntry : Type 0
 EntryMarkIsAnEntry =
-    (h : History) (c : Call) → (goes h c.event c.processor).refusal ≡ 0 → EntryMark h c
+    (s : LockState) (c : Call) → (happens s c.event c.processor).refusal ≡ 0 → EntryMark s c

@@ -4,7 +4,7 @@
 --     LogIsInUpperCase      no log has a to f
 --     UpperCaseAsBefore     where line 1 is in upper case, the log begins with line 1 as read, as document 01 says
 --     CaseIsSharp           in another case it does not: computed
-use Rattle.std.specs.Prelude.{◌≡◌, ℕ, ◌≤◌, ◌≢◌, List, ◌++◌, length, take}
+use Rattle.std.specs.Prelude.{ℕ, ◌≤◌, ◌≡◌, ◌≢◌, List, ◌++◌, length, take}
 use Rattle.frame.specs.Case.{upper_case, EqualUpToCase}
 use Rattle.frame.specs.Laws.{InUpperCase, line_with}
 use Rattle.bench.specs.Log.{longest, counted, log_of}

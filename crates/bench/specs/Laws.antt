@@ -2,16 +2,16 @@
 --     FuelDoesNotMatter    the fuel of `log_from` changes nothing once it is the length of the text
 --     LogFitsItsRoom       a log is within the room that the bench asks for it
 --     OnlyOneAnswerFits    two answers, and two buffers, that meet the contract of a public function are one
-use Rattle.std.specs.Prelude.{◌≡◌, ℕ, ◌≤◌, List, length}
-use Rattle.history.specs.declared.History.{History}
+use Rattle.std.specs.Prelude.{ℕ, ◌≤◌, ◌≡◌, List, length}
+use Rattle.lock.specs.declared.LockState.{LockState}
 use Rattle.bench.specs.declared.Logged.{Logged}
 use Rattle.bench.specs.Log.{log_from, log_of}
 use Rattle.bench.specs.Lent.{room_for, logged, left}
 
 abbrev pub FuelDoesNotMatter : Type 0
 FuelDoesNotMatter =
-    (fuel : ℕ) (h : History) (accepted : ℕ) (text : List ℕ) → length text ≤ fuel →
-    log_from fuel h accepted text ≡ log_from (length text) h accepted text
+    (fuel : ℕ) (s : LockState) (accepted : ℕ) (text : List ℕ) → length text ≤ fuel →
+    log_from fuel s accepted text ≡ log_from (length text) s accepted text
 
 abbrev pub LogFitsItsRoom : Type 0
 LogFitsItsRoom = (text : List ℕ) → length (log_of text) ≤ room_for (length text)

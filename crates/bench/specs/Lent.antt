@@ -1,24 +1,24 @@
 -- What the bench answers for a lent buffer, and what the buffer holds afterwards. Document 01 leaves open a buffer
 -- that is too short for the whole log: it is refused by 10, before anything is written, where it is shorter than a
 -- room that goes by the schedule's length alone and that no log of such a schedule exceeds.
-use Rattle.std.specs.Prelude.{◌≡◌, ℕ, ◌+◌, ◌*◌, ◌/◌, ◌≤◌, cond, List, ◌++◌, length, take, drop, nat_lt}
+use Rattle.std.specs.Prelude.{ℕ, ◌+◌, ◌*◌, ◌/◌, ◌≤◌, ◌≡◌, cond, List, ◌++◌, length, take, drop, ltb}
 use Rattle.bench.specs.declared.Logged.{Logged}
 use Rattle.bench.specs.Log.{longest, log_of}
 
 -- 17 bytes for each whole line, and 11 for the refusal of what follows them; 11 for a schedule that is too long
 unfoldable pub room_for : ℕ → ℕ
-room_for bytes = cond (nat_lt longest bytes) 11 (17 * (bytes / 9) + 11)
+room_for bytes = cond (ltb longest bytes) 11 (17 * (bytes / 9) + 11)
 
 -- the refusal, 10 or 0, and the number of bytes written
 unfoldable pub logged : List ℕ → List ℕ → Logged
 logged text out =
-    cond (nat_lt (length out) (room_for (length text))) (record { refusal = 10; length = 0 })
+    cond (ltb (length out) (room_for (length text))) (record { refusal = 10; length = 0 })
     (record { refusal = 0; length = length (log_of text) })
 
 -- refused: every byte as it was; otherwise the log in the first bytes, and every byte after it as it was
 unfoldable pub left : List ℕ → List ℕ → List ℕ
 left text out =
-    cond (nat_lt (length out) (room_for (length text))) out (log_of text ++ drop (length (log_of text)) out)
+    cond (ltb (length out) (room_for (length text))) out (log_of text ++ drop (length (log_of text)) out)
 
 -- the answered number counts bytes of the buffer, so a caller may take that part of it without more ado
 abbrev pub Counts : ℕ → List ℕ → Type 0

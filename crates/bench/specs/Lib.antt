@@ -1,5 +1,5 @@
--- What must be believed of the bench: the log of a schedule, what the lent buffer holds afterwards, how a log is a run,
--- that the case of digits does not matter, and that a schedule without undos has the log that it had.
+-- What must be believed of the bench: the log of a schedule, what the lent buffer holds afterwards, how a log is a run, and
+-- that the case of digits does not matter.
 pub mod Log
 pub mod Lent
 pub mod Steps
@@ -7,4 +7,3 @@ pub mod Laws
 pub mod Bridge
 pub mod Verdict
 pub mod Case
-pub mod Before

@@ -1,14 +1,12 @@
--- Document 01, "Frames" and "What is turned away", with request [6]'s undo: the whole log of a schedule, byte for byte. One function
--- says what a line makes, and a recursion goes from line to line. The lines' forms are those of frame, the states those of history: a
--- lock with its journal.
-use Rattle.std.specs.Prelude.{ℕ, zero, suc, ◌+◌, ◌/◌, ◌%◌, Bool, true, false, cond, ◌&&◌, List, [], ◌∷◌, ◌++◌, length, ◌==◌, nat_lt, slice_index}
+-- Document 01, "Frames" and "What is turned away": the whole log of a schedule, byte for byte. One function says what
+-- a line makes, and a recursion goes from line to line. The lines' forms are those of frame, the states those of
+-- lock.
+use Rattle.std.specs.Prelude.{ℕ, zero, suc, ◌+◌, ◌/◌, ◌%◌, Bool, true, false, cond, ◌&&◌, List, [], ◌∷◌, ◌++◌, length, get_or, eqb, ltb}
 use Rattle.lock.specs.declared.Row.{Row}
 use Rattle.lock.specs.declared.LockState.{LockState}
+use Rattle.lock.specs.declared.Answer.{Answer}
 use Rattle.lock.specs.State.{row}
-use Rattle.lock.specs.Event.{fresh, is_step}
-use Rattle.history.specs.declared.History.{History}
-use Rattle.history.specs.declared.Outcome.{Outcome}
-use Rattle.history.specs.Event.{unwritten, goes}
+use Rattle.lock.specs.Event.{fresh, happens, is_step}
 use Rattle.frame.specs.Reading.{Told, reads, rest_of}
 use Rattle.frame.specs.Writing.{header_line, row_line, count_line, refusal_line}
 
@@ -27,14 +25,14 @@ low k = k % 256
 abbrev pub refused_at : ℕ → ℕ → List ℕ
 refused_at refusal line = refusal_line refusal (high line) (low line)
 
--- "04 high low check: the number of accepted events, at the end"; [6] "The 04 count is of accepted lines, undos included"
+-- "04 high low check: the number of accepted events, at the end"
 abbrev pub counted : ℕ → List ℕ
 counted accepted = count_line (high accepted) (low accepted)
 
--- "Marks: 1 flag, 2 guard, 4 this event was an entry, added." "An entry is a step that ends at 9", so an undo is none. The row is the
--- one after the event.
+-- "Marks: 1 flag, 2 guard, 4 this event was an entry, added." "An entry is a step that ends at 9." The row is the one
+-- after the event.
 unfoldable pub marks_of : Row → ℕ → ℕ
-marks_of r event = cond r.flag 1 0 + cond r.guard 2 0 + cond (is_step event && r.place == 9) 4 0
+marks_of r event = cond r.flag 1 0 + cond r.guard 2 0 + cond (is_step event && eqb r.place 9) 4 0
 
 unfoldable pub marks : LockState → ℕ → ℕ → ℕ
 marks s event p = marks_of (row s p) event
@@ -51,58 +49,56 @@ shown s event p = row_shown p s.tail (row s p) event
 pub record Turn : Type 0 where
   pub goes_on : Bool
   pub written : List ℕ
-  pub next : History
+  pub next : LockState
 
-abbrev pub stopped : History → ℕ → ℕ → Turn
-stopped h refusal line = record { goes_on = false; written = refused_at refusal line; next = h }
+abbrev pub stopped : LockState → ℕ → ℕ → Turn
+stopped s refusal line = record { goes_on = false; written = refused_at refusal line; next = s }
 
 -- the second and third number of a frame: edition and N of line 1, event and processor of a later line
 abbrev pub second : Told → ℕ
-second t = slice_index t.numbers 1
+second t = get_or t.numbers 1 0
 
 abbrev pub third : Told → ℕ
-third t = slice_index t.numbers 2
+third t = get_or t.numbers 2 0
 
--- an event as it is answered: the row shown, or the refusal. [6] "Undo writes an 03 frame for the processor of the undone event,
--- without the entry mark": the answer names the processor.
-unfoldable pub answered : History → ℕ → ℕ → Outcome → Turn
-answered h line event a =
-    cond (a.refusal == 0)
-    (record { goes_on = true; written = shown a.state.lock event a.processor; next = a.state })
-    (stopped h a.refusal line)
+-- an event as the lock answers it: the row shown, or the refusal
+unfoldable pub answered : LockState → ℕ → ℕ → ℕ → Answer → Turn
+answered s line event p a =
+    cond (eqb a.refusal 0) (record { goes_on = true; written = shown a.state event p; next = a.state })
+    (stopped s a.refusal line)
 
 -- a later line as the reader reads it: the event, or the refusal
-unfoldable pub followed : History → ℕ → Told → Turn
-followed h line t =
-    cond (t.refusal == 0) (answered h line (second t) (goes h (second t) (third t)))
-    (stopped h t.refusal line)
+unfoldable pub followed : LockState → ℕ → Told → Turn
+followed s line t =
+    cond (eqb t.refusal 0) (answered s line (second t) (third t) (happens s (second t) (third t)))
+    (stopped s t.refusal line)
 
 -- the turn of the line that begins the text
-unfoldable pub turn_of : History → ℕ → List ℕ → Turn
-turn_of h line text = followed h line (reads text false)
+unfoldable pub turn_of : LockState → ℕ → List ℕ → Turn
+turn_of s line text = followed s line (reads text false)
 
 -- The log from a later line on, where so many events were accepted before: their lines are 2 to accepted + 1. "After
 -- the last line the end is no refusal." The fuel bounds the lines; the length of the text is enough.
-unfoldable pub log_from : ℕ → History → ℕ → List ℕ → List ℕ
-log_from zero h accepted text = counted accepted
-log_from (suc fuel) h accepted [] = counted accepted
-log_from (suc fuel) h accepted (b ∷ text) =
-    (turn_of h (accepted + 2) (b ∷ text)).written
-    ++ cond (turn_of h (accepted + 2) (b ∷ text)).goes_on
-    (log_from fuel (turn_of h (accepted + 2) (b ∷ text)).next (suc accepted) (rest_of (b ∷ text)))
+unfoldable pub log_from : ℕ → LockState → ℕ → List ℕ → List ℕ
+log_from zero s accepted text = counted accepted
+log_from (suc fuel) s accepted [] = counted accepted
+log_from (suc fuel) s accepted (b ∷ text) =
+    (turn_of s (accepted + 2) (b ∷ text)).written
+    ++ cond (turn_of s (accepted + 2) (b ∷ text)).goes_on
+    (log_from fuel (turn_of s (accepted + 2) (b ∷ text)).next (suc accepted) (rest_of (b ∷ text)))
     []
 
--- line 1 as the lock answers its numbers: request [3]'s "the 01 line as the writer gives it", then the later lines, from an empty
--- journal; "If line 1 is refused, 05 is the whole output"
+-- line 1 as the lock answers its numbers: request [3]'s "the 01 line as the writer gives it", then the later lines; "If
+-- line 1 is refused, 05 is the whole output"
 unfoldable pub begun : List ℕ → ℕ → ℕ → List ℕ
 begun text edition n =
     let a = fresh edition n in
-    cond (a.refusal == 0) (header_line edition n ++ log_from (length text) (unwritten a.state) 0 (rest_of text))
+    cond (eqb a.refusal 0) (header_line edition n ++ log_from (length text) a.state 0 (rest_of text))
     (refused_at a.refusal 1)
 
 unfoldable pub opened : List ℕ → Told → List ℕ
-opened text t = cond (t.refusal == 0) (begun text (second t) (third t)) (refused_at t.refusal 1)
+opened text t = cond (eqb t.refusal 0) (begun text (second t) (third t)) (refused_at t.refusal 1)
 
 -- "1 first": the log of a schedule
 unfoldable pub log_of : List ℕ → List ℕ
-log_of text = cond (nat_lt longest (length text)) (refused_at 1 0) (opened text (reads text true))
+log_of text = cond (ltb longest (length text)) (refused_at 1 0) (opened text (reads text true))

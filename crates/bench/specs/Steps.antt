@@ -1,7 +1,6 @@
 -- The words in which the contracts of the inner functions say what the definitions of Log say.
 use Rattle.std.specs.Prelude.{ℕ, ◌+◌, ◌*◌, ◌/◌, true, List, ◌++◌, length, take, drop}
 use Rattle.lock.specs.declared.LockState.{LockState}
-use Rattle.history.specs.Event.{unwritten}
 use Rattle.frame.specs.Reading.{reads}
 use Rattle.bench.specs.Log.{log_from, opened}
 
@@ -13,9 +12,9 @@ filled bytes buffer = bytes ++ drop (length bytes) buffer
 abbrev pub laid : ℕ → List ℕ → List ℕ → List ℕ
 laid at line buffer = take at buffer ++ (line ++ drop (at + length line) buffer)
 
--- the log of the later lines, where none was accepted before and the journal is empty
+-- the log of the later lines, where none was accepted before
 abbrev pub later_log : LockState → List ℕ → List ℕ
-later_log s text = log_from (length text) (unwritten s) 0 text
+later_log s text = log_from (length text) s 0 text
 
 -- the log of a schedule that is not too long
 abbrev pub opened_log : List ℕ → List ℕ

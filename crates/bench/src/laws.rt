@@ -1,11 +1,9 @@
 // The laws of logs as contracts: an empty function promises each, so that a check names it. The statements are those
-// of `specs/Laws.antt`, `specs/Bridge.antt`, `specs/Verdict.antt`,
-// `specs/Case.antt` and `specs/Before.antt`; nobody needs to call these.
+// of `specs/Laws.antt`, `specs/Bridge.antt`, `specs/Verdict.antt` and `specs/Case.antt`; nobody needs to call these.
 ghost use Rattle.bench.specs.Laws.{FuelDoesNotMatter, LogFitsItsRoom, OnlyOneAnswerFits};
 ghost use Rattle.bench.specs.Bridge.{EveryLogIsARun, AcceptedLogIsARun, RowsFollowTheRun, EntryMarkIsAnEntry};
 ghost use Rattle.bench.specs.Verdict.{LogTellsTheVerdict};
 ghost use Rattle.bench.specs.Case.{CaseDoesNotMatter, LogIsInUpperCase, UpperCaseAsBefore, CaseIsSharp};
-ghost use Rattle.bench.specs.Before.{WithoutUndosAsBefore};
 
 // The bound on the lines in the definition of a log changes nothing.
 pub fn fuel_does_not_matter()
@@ -22,13 +20,13 @@ pub fn only_one_answer_fits()
     ensures { OnlyOneAnswerFits }
 {}
 
-// Every log is line 1, the rows along the walk of the calls that are heard, and their number or the first refusal with its
-// line; or the refusal alone. The state that they lead to is the run of the events not undone.
+// Every log is line 1, the rows along the run of the calls that are heard, and their number or the first refusal with its
+// line; or the refusal alone.
 pub fn every_log_is_a_run()
     ensures { EveryLogIsARun }
 {}
 
-// The log of a schedule with no refusal is line 1, the rows along its walk, and the number of its calls.
+// The log of a schedule with no refusal is line 1, the rows along its run, and the number of its calls.
 pub fn accepted_log_is_a_run()
     ensures { AcceptedLogIsARun }
 {}
@@ -38,19 +36,14 @@ pub fn log_tells_the_verdict()
     ensures { LogTellsTheVerdict }
 {}
 
-// The row after each call shows the run of the events not undone up to it.
+// The row after each call shows the state that the run has then.
 pub fn rows_follow_the_run()
     ensures { RowsFollowTheRun }
 {}
 
-// The entry mark is given exactly where the call is an entry, and never at an undo.
+// The entry mark is given exactly where the call is an entry.
 pub fn entry_mark_is_an_entry()
     ensures { EntryMarkIsAnEntry }
-{}
-
-// A schedule without undos has the log that it had before there were any.
-pub fn without_undos_as_before()
-    ensures { WithoutUndosAsBefore }
 {}
 
 // A schedule has the log that it has in upper case.

@@ -1,5 +1,5 @@
 // Single lines of the log. Each goes into the lent buffer from a byte on, and the writer answers where it ends.
-ghost use Rattle.std.specs.Prelude.{◌≡◌, ◌+◌, ◌≤◌, cond, length};
+ghost use Rattle.std.specs.Prelude.{◌≡◌, cond, ◌+◌, ◌≤◌, length};
 ghost use Rattle.bench.specs.Log.{high, low, refused_at, counted, marks_of, row_shown};
 ghost use Rattle.bench.specs.Steps.{laid};
 

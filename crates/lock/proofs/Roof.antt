@@ -1,5 +1,5 @@
 -- The roof of the lock's proofs: what functions of src/ promise, put together from the rooms below.
---     Opened               what it takes to compute a run
+--     Opened, Computed     what it takes to compute a run; the P cases
 --     Single               only one answer fits
 --     Inside               never two inside, from an invariant of states
 --     Callers              calls of the library are a run
@@ -7,6 +7,7 @@
 --     Old                  the old boards' lock: no joins, and what is not claimed of it
 --     Reread               the second read of next, and place 28
 pub mod Opened
+pub mod Computed
 pub mod Single
 pub mod Inside
 pub mod Callers

@@ -7,8 +7,9 @@ use Rattle.lock.specs.declared.LockState.{LockState}
 use Rattle.lock.specs.State.{processors, none, drawn, guarded, RP, row}
 use Rattle.lock.specs.Sound.{sound}
 use Rattle.lock.specs.Event.{accepted, happens}
-use Rattle.lock.specs.Run.{Call, run, steps_of, step, steps, raise}
+use Rattle.lock.specs.Run.{Call, run, steps_of}
 use Rattle.lock.specs.Count.{steps_in, all_entries_in}
+use Rattle.lock.specs.Cases.{step, steps, raise}
 use Rattle.lock.specs.Claims.{reached, AnyEdition}
 
 -- ---- what a second read would find

@@ -1,6 +1,6 @@
 -- Schedules and what happens in them: a schedule is a list of events, a run is what they make of a state, one after the other.
 -- Joins, entries and interrupts are read off a single step of the run; nothing is tallied in the state.
-use Rattle.std.specs.Prelude.{ℕ, Bool, ◌&&◌, ◌||◌, List, [], ◌∷◌, replicate, eqb}
+use Rattle.std.specs.Prelude.{ℕ, Bool, ◌&&◌, ◌||◌, List, [], ◌∷◌, eqb}
 use Rattle.lock.specs.declared.LockState.{LockState}
 use Rattle.lock.specs.State.{row}
 use Rattle.lock.specs.Event.{is_step, happens}
@@ -9,16 +9,6 @@ use Rattle.lock.specs.Event.{is_step, happens}
 pub record Call : Type 0 where
   pub event : ℕ
   pub processor : ℕ
-
-abbrev pub step : ℕ → Call
-step p = record { event = 1; processor = p }
-
-abbrev pub raise : ℕ → Call
-raise p = record { event = 2; processor = p }
-
--- k steps of p
-abbrev pub steps : ℕ → ℕ → List Call
-steps p k = replicate k (step p)
 
 -- the state after a call; a refused one changes nothing
 unfoldable pub after : LockState → Call → LockState

@@ -31,7 +31,7 @@ use Rattle.frame.specs.Reading.{rest_of}
 use Rattle.bench.specs.Log.{longest}
 use Rattle.bench.specs.Bridge.{call_of, line_refusal}
 use Rattle.bench.specs.Verdict.{later_verdict}
-use Rattle.bench.proofs.Sound.{happens-whole}
+use Rattle.bench.proofs.Sound.{happens_whole}
 use Rattle.bench.proofs.Heard.{heard_on, heard_stops, heard_end}
 use Rattle.report.specs.declared.counting.Did.{Did}
 use Rattle.report.specs.declared.counting.Account.{Account}
@@ -198,5 +198,5 @@ module _ {text : List ℕ} {first : LockState} {rest : List ℕ} {s : LockState}
             ∙ ap (λ (k : ℕ). drop k text) nine;
         accounts_are = f;
         fewer = omega (arith, i.fewer, length-drop 9 rest, line.some);
-        sound = happens-whole i.sound event p a line.answers;
+        sound = happens_whole i.sound event p a line.answers;
       })

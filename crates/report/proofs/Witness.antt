@@ -14,7 +14,8 @@ use Rattle.choice.proofs.Tests.{cases, and_left, and_right}
 use Rattle.choice.proofs.Numbers.{every_at}
 use Rattle.lock.specs.State.{processors}
 use Rattle.lock.specs.Event.{fresh}
-use Rattle.lock.specs.Run.{Call, step, steps, raise}
+use Rattle.lock.specs.Run.{Call}
+use Rattle.lock.specs.Cases.{step, steps, raise}
 use Rattle.lock.proofs.Roof.Opened.{computed}
 use Rattle.frame.specs.Pairs.{value_of, digit_of, pair_at, pairs_from, sum_of, check_of}
 use Rattle.frame.specs.Reading.{is_torn, are_digits, read_as}

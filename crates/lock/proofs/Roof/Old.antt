@@ -14,8 +14,9 @@ use Rattle.choice.proofs.Tests.{clash, and_right}
 use Rattle.lock.specs.declared.LockState.{LockState}
 use Rattle.lock.specs.State.{processors, old, is_old, fresh_row, fresh_state, with_place, row}
 use Rattle.lock.specs.Sound.{has_place}
-use Rattle.lock.specs.Run.{Call, after, run, joins, enters, interrupted, steps_of, step, steps}
+use Rattle.lock.specs.Run.{Call, after, run, joins, enters, interrupted, steps_of}
 use Rattle.lock.specs.Count.{count_in, joins_in, entries_in, interrupts_in}
+use Rattle.lock.specs.Cases.{step, steps}
 use Rattle.lock.specs.Claims.{reached}
 use Rattle.lock.specs.Old.{OldHasNoJoins, OldOvertakes, OldHasNoBound}
 use Rattle.lock.proofs.Keeping.Parts.{row_room, row_has}

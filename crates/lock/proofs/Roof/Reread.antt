@@ -17,8 +17,9 @@ use Rattle.lock.specs.declared.LockState.{LockState}
 use Rattle.lock.specs.State.{processors, none, drawn, guarded, RP, fresh_state, with_place, row}
 use Rattle.lock.specs.Table.{place_at, act, stepped}
 use Rattle.lock.specs.Event.{happens}
-use Rattle.lock.specs.Run.{Call, after, run, steps_of, enters, is_inside, step, steps, raise}
+use Rattle.lock.specs.Run.{Call, after, run, steps_of, enters, is_inside}
 use Rattle.lock.specs.Count.{count_in, steps_in, all_entries_in}
+use Rattle.lock.specs.Cases.{step, steps, raise}
 use Rattle.lock.specs.Claims.{reached}
 use Rattle.lock.specs.Reread.{takes, SameAtTake, AtLift, SameAtLift, SameOnceTaken, TakeLeadsToLift, SecondRead, SecondReadFindsTheSame, ReadsAnother, TakenMet, SecondReadIsSharp, lost_before, lost_since, lost_unread, is_lost, LostChangesNothing, LostStaysLost, NobodyEntersOnceLost, LockIsLost}
 use Rattle.lock.proofs.Ground.Places.{lost_same}

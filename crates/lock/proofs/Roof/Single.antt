@@ -1,6 +1,6 @@
 -- Only one answer meets a contract that is an equation: one law, cited for each public function.
 use mathlib.Core.Path.{sym, ◌∙◌}
-use Rattle.lock.specs.State.{row, put_row, put_tail}
+use Rattle.lock.specs.State.{row}
 use Rattle.lock.specs.Sound.{sound}
 use Rattle.lock.specs.Event.{fresh, carried, happens}
 use Rattle.lock.specs.Unique.{OnlyOne, OnlyOneAnswer}
@@ -14,8 +14,6 @@ only_one_answer =
       of_fresh = λ e n. only_one _ (fresh e n);
       of_is_sound = λ s. only_one _ (sound s);
       of_row = λ s p. only_one _ (row s p);
-      of_put_row = λ s p r. only_one _ (put_row s p r);
-      of_put_tail = λ s q. only_one _ (put_tail s q);
       of_event = λ s event p. only_one _ (happens s event p);
       of_carried = λ s event p. only_one _ (carried s event p);
       of_step = λ s p. only_one _ (happens s 1 p);

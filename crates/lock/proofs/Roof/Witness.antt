@@ -14,7 +14,8 @@ use mathlib.Core.List.{List, [], ◌∷◌, ◌++◌}
 use lib.Dec.{lit≤}
 use borrow.Author.Tests.{eqb-false}
 use Rattle.lock.specs.State.{row}
-use Rattle.lock.specs.Run.{Call, enters, step, steps, raise}
+use Rattle.lock.specs.Run.{Call, enters}
+use Rattle.lock.specs.Cases.{step, steps, raise}
 use Rattle.lock.specs.Count.{entries_in, interrupts_in, all_entries_in}
 use Rattle.lock.specs.Claims.{reached, waited, Ordered, Waits, LastJoin}
 use Rattle.lock.specs.Sharp.{Order, Once, Bound, no_interrupt, one_at_most, ClaimsAreSharp}

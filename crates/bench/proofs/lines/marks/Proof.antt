@@ -1,5 +1,5 @@
 -- `bench::lines::marks` meets its contract: three marks of one row, added.
-use Rattle.std.proofs.Common.{rules}
+use borrow.Author.Rules.{rules}
 use Rattle.bench.specs.Log.{marks_of}
 use Rattle.bench.proofs.lines.marks.Statement.{statement}
 use Rattle.bench.proofs.lines.marks.Tie as tie

@@ -1,5 +1,7 @@
 -- `bench::lines::write_counted` meets its contract: the number goes into the two bytes that `counted` says.
-use Rattle.std.proofs.Common.{◌+◌, sym, ap, rules}
+use mathlib.Core.Path.{ap, sym}
+use borrow.Author.Rules.{rules}
+use Prim.Native.Nat.{◌+◌}
 use Rattle.bench.specs.Log.{counted}
 use Rattle.bench.proofs.Sizes.{count_size}
 use Rattle.bench.proofs.Parts.{laid_is}

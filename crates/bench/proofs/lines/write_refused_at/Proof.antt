@@ -1,6 +1,8 @@
 -- `bench::lines::write_refused_at` meets its contract: the line's number goes into the two bytes that `refused_at`
 -- says.
-use Rattle.std.proofs.Common.{◌+◌, sym, ap, rules}
+use mathlib.Core.Path.{ap, sym}
+use borrow.Author.Rules.{rules}
+use Prim.Native.Nat.{◌+◌}
 use Rattle.bench.specs.Log.{refused_at}
 use Rattle.bench.proofs.Sizes.{refusal_size}
 use Rattle.bench.proofs.Parts.{laid_is}

@@ -1,5 +1,7 @@
 -- `bench::lines::write_shown` meets its contract: the row's cells and its marks are those of `row_shown`.
-use Rattle.std.proofs.Common.{◌+◌, sym, ap, rules}
+use mathlib.Core.Path.{ap, sym}
+use borrow.Author.Rules.{rules}
+use Prim.Native.Nat.{◌+◌}
 use Rattle.bench.specs.Log.{row_shown}
 use Rattle.bench.proofs.Sizes.{row_size}
 use Rattle.bench.proofs.Parts.{laid_is}

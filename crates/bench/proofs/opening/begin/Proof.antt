@@ -1,6 +1,9 @@
 -- `bench::opening::begin` meets its contract: line 1 of its numbers with the later lines behind it, or its refusal alone.
 -- Assumes nothing.
-use Rattle.std.proofs.Common.{length, ap, arith, length-drop, rules}
+use native.Mathlib.Omega.{arith}
+use mathlib.Core.Path.{ap}
+use lib.ListN.{length, length-drop}
+use borrow.Author.Rules.{rules}
 use Rattle.lock.proofs.Keeping.{fresh_kept}
 use Rattle.bench.proofs.Room.{later_fits}
 use Rattle.bench.proofs.FirstLine.{refusal_room, later_room, begin_follows, begin_refuses}

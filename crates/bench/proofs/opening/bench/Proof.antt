@@ -1,6 +1,8 @@
 -- `bench::opening::bench` meets its contract: the room is tested first, then refusal 1, and then the log is opened.
 -- Assumes nothing.
-use Rattle.std.proofs.Common.{◌∙◌, arith, rules}
+use native.Mathlib.Omega.{arith}
+use mathlib.Core.Path.{◌∙◌}
+use borrow.Author.Rules.{rules}
 use Rattle.bench.specs.Log.{refused_at}
 use Rattle.bench.specs.Steps.{opened_log}
 use Rattle.bench.proofs.Sizes.{refusal_size}

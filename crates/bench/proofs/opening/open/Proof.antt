@@ -1,6 +1,9 @@
 -- `bench::opening::open` meets its contract: by what the reader answers, the log begins or line 1 is refused. An
 -- accepted line has its nine bytes. Assumes nothing.
-use Rattle.std.proofs.Common.{true, length, sym, ap, ◌∙◌, rules}
+use mathlib.Core.Path.{sym, ap, ◌∙◌}
+use mathlib.Core.Bool.{true}
+use lib.ListN.{length}
+use borrow.Author.Rules.{rules}
 use Rattle.frame.specs.Reading.{Told, told}
 use Rattle.bench.specs.Steps.{filled}
 use Rattle.bench.proofs.Sizes.{whole_nine}

@@ -1,6 +1,7 @@
 -- `bench::opening::room_for` meets its contract: a schedule that is not too long has few enough lines that the room
 -- fits.
-use Rattle.std.proofs.Common.{arith, ltb-false}
+use native.Mathlib.Omega.{arith}
+use borrow.Author.Tests.{ltb-false}
 use Rattle.bench.specs.Log.{longest}
 use Rattle.bench.specs.Lent.{room_for}
 use Rattle.bench.proofs.opening.room_for.Statement.{statement}

@@ -15,7 +15,7 @@ use Rattle.lock.specs.State.{row}
 use Rattle.lock.specs.Event.{happens}
 use Rattle.bench.specs.Bridge.{call_of, line_refusal}
 use Rattle.frame.specs.Reading.{told}
-use Rattle.bench.proofs.Sound.{carried-is}
+use Rattle.bench.proofs.Sound.{carried_is}
 use Rattle.bench.proofs.Heard.{line_asks, line_unread}
 use Rattle.report.specs.Accounts.{did_by}
 use Rattle.report.proofs.Going.{Along, begins, stops, ends, Taken, low, fit, changed, quiet, goes_on}
@@ -56,7 +56,7 @@ processor-of a = a.before.before.before.event.given.0.1.1.0
 answer-is : (a : tie.After-carried invariant-loop decreases-loop) →
     a.carried.result ≡ happens (loop-of (read_of a)).loop.state (event-of a) (processor-of a)
 answer-is a =
-    carried-is (loop-of (read_of a)).loop.inv.sound (event-of a) (processor-of a) a.carried.result
+    carried_is (loop-of (read_of a)).loop.inv.sound (event-of a) (processor-of a) a.carried.result
     a.carried.ensures
 
 -- what a line asks for
