@@ -3,6 +3,8 @@
 // The log goes straight into the lent buffer, a line at a time, and the text is handed on as a part from each line
 // on. Each function is one definition of `specs/`: `lines` writes single lines, `turns` goes from line to line,
 // `opening` begins.
+#![tactic(auto)]
+
 pub mod laws;
 mod lines;
 mod opening;

@@ -3,6 +3,8 @@
 //
 // Each function is one definition of bench, frame or report, told as one number: how many bytes are written, and 0 where the
 // lent buffer has not the room; of a report its refusal. They ask nothing of their caller but that a slice is what it says.
+#![tactic(auto)]
+
 pub mod laws;
 mod rows;
 mod told;

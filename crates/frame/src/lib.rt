@@ -7,6 +7,8 @@
 //
 // The public functions ask nothing of their caller. What each answers, and what it leaves in a lent buffer, is one
 // equation with a definition of `specs/`.
+#![tactic(auto)]
+
 pub mod laws;
 mod pairs;
 mod reading;

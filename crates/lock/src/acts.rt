@@ -7,6 +7,7 @@ use crate::LockState;
 
 impl LockState {
     // The guarded edition stops at the gate, so that a processor somebody still fences does not join anew.
+    #[tactic(auto, unfolding(crate::specs::Acts::to_queue))]
     fn to_queue(self, p: u8) -> LockState
         ensures { result ≡ Acts.to_queue self p }
     {
@@ -18,6 +19,7 @@ impl LockState {
         }
     }
 
+    #[tactic(auto, unfolding(crate::specs::Acts::to_hand))]
     fn to_hand(self, p: u8) -> LockState
         ensures { result ≡ Acts.to_hand self p }
     {
@@ -25,6 +27,7 @@ impl LockState {
         self.put_succ(p, own.next).to(p, 17)
     }
 
+    #[tactic(auto, unfolding(crate::specs::Acts::onward))]
     fn onward(self, p: u8) -> LockState
         ensures { result ≡ Acts.onward self p }
     {
@@ -37,6 +40,7 @@ impl LockState {
         }
     }
 
+    #[tactic(auto, unfolding(crate::specs::Acts::to_lift))]
     fn to_lift(self, p: u8) -> LockState
         ensures { result ≡ Acts.to_lift self p }
     {
@@ -49,6 +53,7 @@ impl LockState {
     }
 
     // A request that comes at rest is served at once.
+    #[tactic(auto, unfolding(crate::specs::Acts::rest))]
     pub(crate) fn rest(self, p: u8) -> LockState
         ensures { result ≡ Acts.rest self p }
     {
@@ -65,6 +70,7 @@ impl LockState {
     }
 
     // While the guard is set a releaser still works on this row: joining now would hand it a node that has left.
+    #[tactic(auto, unfolding(crate::specs::Acts::gate))]
     pub(crate) fn gate(self, p: u8) -> LockState
         ensures { result ≡ Acts.gate self p }
     {
@@ -72,6 +78,7 @@ impl LockState {
         if own.guard { self } else { self.to(p, 2) }
     }
 
+    #[tactic(auto, unfolding(crate::specs::Acts::clear))]
     pub(crate) fn clear(self, p: u8) -> LockState
         ensures { result ≡ Acts.clear self p }
     {
@@ -79,6 +86,7 @@ impl LockState {
     }
 
     // The join: from here on the order of the queue is settled.
+    #[tactic(auto, unfolding(crate::specs::Acts::swap))]
     pub(crate) fn swap(self, p: u8) -> LockState
         ensures { result ≡ Acts.swap self p }
     {
@@ -92,12 +100,14 @@ impl LockState {
         }
     }
 
+    #[tactic(auto, unfolding(crate::specs::Acts::arm))]
     pub(crate) fn arm(self, p: u8) -> LockState
         ensures { result ≡ Acts.arm self p }
     {
         self.put_locked(p, LockState::LOCKED).to(p, 5)
     }
 
+    #[tactic(auto, unfolding(crate::specs::Acts::link))]
     pub(crate) fn link(self, p: u8) -> LockState
         ensures { result ≡ Acts.link self p }
     {
@@ -112,6 +122,7 @@ impl LockState {
     }
 
     // The lock may have been parked on the predecessor before the link was seen: then nobody else will take it on.
+    #[tactic(auto, unfolding(crate::specs::Acts::claim))]
     pub(crate) fn claim(self, p: u8) -> LockState
         ensures { result ≡ Acts.claim self p }
     {
@@ -125,6 +136,7 @@ impl LockState {
         }
     }
 
+    #[tactic(auto, unfolding(crate::specs::Acts::spin))]
     pub(crate) fn spin(self, p: u8) -> LockState
         ensures { result ≡ Acts.spin self p }
     {
@@ -137,12 +149,14 @@ impl LockState {
         if plain { self } else { self.to(p, 10) }
     }
 
+    #[tactic(auto, unfolding(crate::specs::Acts::settle))]
     pub(crate) fn settle(self, p: u8) -> LockState
         ensures { result ≡ Acts.settle self p }
     {
         self.put_locked(p, LockState::RELEASED).to(p, 9)
     }
 
+    #[tactic(auto, unfolding(crate::specs::Acts::inside))]
     pub(crate) fn inside(self, p: u8) -> LockState
         ensures { result ≡ Acts.inside self p }
     {
@@ -151,6 +165,7 @@ impl LockState {
     }
 
     // Where the exchange fails the lock has just been handed over: the flag stays for the next rest.
+    #[tactic(auto, unfolding(crate::specs::Acts::poll))]
     pub(crate) fn poll(self, p: u8) -> LockState
         ensures { result ≡ Acts.poll self p }
     {
@@ -165,12 +180,14 @@ impl LockState {
         }
     }
 
+    #[tactic(auto, unfolding(crate::specs::Acts::service))]
     pub(crate) fn service(self, p: u8) -> LockState
         ensures { result ≡ Acts.service self p }
     {
         self.to(p, 12)
     }
 
+    #[tactic(auto, unfolding(crate::specs::Acts::back))]
     pub(crate) fn back(self, p: u8) -> LockState
         ensures { result ≡ Acts.back self p }
     {
@@ -184,6 +201,7 @@ impl LockState {
     }
 
     // Without this try the lock would stay parked on a processor that has left.
+    #[tactic(auto, unfolding(crate::specs::Acts::regain))]
     pub(crate) fn regain(self, p: u8) -> LockState
         ensures { result ≡ Acts.regain self p }
     {
@@ -196,6 +214,7 @@ impl LockState {
         }
     }
 
+    #[tactic(auto, unfolding(crate::specs::Acts::look))]
     pub(crate) fn look(self, p: u8) -> LockState
         ensures { result ≡ Acts.look self p }
     {
@@ -208,6 +227,7 @@ impl LockState {
         }
     }
 
+    #[tactic(auto, unfolding(crate::specs::Acts::close))]
     pub(crate) fn close(self, p: u8) -> LockState
         ensures { result ≡ Acts.close self p }
     {
@@ -228,6 +248,7 @@ impl LockState {
         if unlinked { self } else { self.to_hand(p) }
     }
 
+    #[tactic(auto, unfolding(crate::specs::Acts::hand))]
     pub(crate) fn hand(self, p: u8) -> LockState
         ensures { result ≡ Acts.hand self p }
     {
@@ -250,6 +271,7 @@ impl LockState {
     }
 
     // The fence stands before the park: a parked processor that could join again unseen would be passed over.
+    #[tactic(auto, unfolding(crate::specs::Acts::fence))]
     pub(crate) fn fence(self, p: u8) -> LockState
         ensures { result ≡ Acts.fence self p }
     {
@@ -257,6 +279,7 @@ impl LockState {
         self.put_guard(own.succ, true).to(p, 19)
     }
 
+    #[tactic(auto, unfolding(crate::specs::Acts::park))]
     pub(crate) fn park(self, p: u8) -> LockState
         ensures { result ≡ Acts.park self p }
     {
@@ -270,6 +293,7 @@ impl LockState {
         }
     }
 
+    #[tactic(auto, unfolding(crate::specs::Acts::peek))]
     pub(crate) fn peek(self, p: u8) -> LockState
         ensures { result ≡ Acts.peek self p }
     {
@@ -284,6 +308,7 @@ impl LockState {
         }
     }
 
+    #[tactic(auto, unfolding(crate::specs::Acts::take))]
     pub(crate) fn take(self, p: u8) -> LockState
         ensures { result ≡ Acts.take self p }
     {
@@ -304,6 +329,7 @@ impl LockState {
     }
 
     // The guard of the old succ is lifted, before succ is replaced: the new one was never fenced.
+    #[tactic(auto, unfolding(crate::specs::Acts::lift))]
     pub(crate) fn lift(self, p: u8) -> LockState
         ensures { result ≡ Acts.lift self p }
     {
@@ -312,6 +338,7 @@ impl LockState {
     }
 
     // Test and set in one act: two who find the lock free at once cannot both take it.
+    #[tactic(auto, unfolding(crate::specs::Acts::old_try, crate::specs::Acts::unheld))]
     pub(crate) fn old_try(self, p: u8) -> LockState
         ensures { result ≡ Acts.old_try self p }
     {
@@ -324,6 +351,7 @@ impl LockState {
     }
 
     // No turn can be lost here, as nobody keeps one: the flag alone decides.
+    #[tactic(auto, unfolding(crate::specs::Acts::old_poll))]
     pub(crate) fn old_poll(self, p: u8) -> LockState
         ensures { result ≡ Acts.old_poll self p }
     {
@@ -335,6 +363,7 @@ impl LockState {
         }
     }
 
+    #[tactic(auto, unfolding(crate::specs::Acts::old_service))]
     pub(crate) fn old_service(self, p: u8) -> LockState
         ensures { result ≡ Acts.old_service self p }
     {
@@ -342,6 +371,7 @@ impl LockState {
     }
 
     // Whoever tries next has it, be it the one who leaves.
+    #[tactic(auto, unfolding(crate::specs::Acts::old_free))]
     pub(crate) fn old_free(self, p: u8) -> LockState
         ensures { result ≡ Acts.old_free self p }
     {
@@ -349,6 +379,7 @@ impl LockState {
     }
 
     // The figure trusts this read, though succ may have come back and cleared its next since the peek: nobody holds it at a gate.
+    #[tactic(auto, unfolding(crate::specs::Acts::reread))]
     pub(crate) fn reread(self, p: u8) -> LockState
         ensures { result ≡ Acts.reread self p }
     {

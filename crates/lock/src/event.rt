@@ -50,6 +50,7 @@ impl LockState {
         }
     }
 
+    #[tactic(auto, unfolding(crate::specs::Event::raised))]
     fn raised(self, p: u8) -> LockState
         ensures { result ≡ raised self p }
     {

@@ -1,6 +1,8 @@
 // The state of one lock and up to sixteen processors, its soundness, the step table and the events. Here are the types and the
 // limits; each module is one part of document 01: `cells` a state's cells, `sound` soundness, `places` which places an edition
 // has, `acts` and `table` the step table, `event` the events. `claims`, `kept` and `laws` promise what is proved of them.
+#![tactic(auto)]
+
 ghost use Rattle.std.specs.Prelude.{◌≡◌};
 ghost use Rattle.lock.specs.State.{fresh_row};
 
@@ -20,7 +22,7 @@ const ROWS: usize = LockState::PROCESSORS as usize;
 
 // What belongs to one processor: its queue node (next, locked, guard), its request flag, its place in the step table, and the
 // private cells that the acts use.
-#[derive(Drop)]
+#[derive(Clone, Copy)]
 pub struct Row {
     pub next: u8,
     pub locked: u8,
@@ -33,7 +35,7 @@ pub struct Row {
 }
 
 // One value that holds its sixteen rows; `n` is the number of processors, `tail` document 01's L.
-#[derive(Drop)]
+#[derive(Clone, Copy)]
 pub struct LockState {
     pub edition: u8,
     pub n: u8,
@@ -42,7 +44,7 @@ pub struct LockState {
 }
 
 // What making the fresh state or an event answers: the refusal's number, 0 for accepted, and the state.
-#[derive(Drop)]
+#[derive(Clone, Copy)]
 pub struct Answer {
     pub refusal: u8,
     pub state: LockState,

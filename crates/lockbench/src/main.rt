@@ -1,4 +1,6 @@
 // lockbench: a schedule on standard input, its log on standard output. All that matters is in `bench`.
+#![tactic(auto)]
+
 use libc::{STDIN_FILENO, STDOUT_FILENO};
 
 fn main() {

@@ -1,5 +1,7 @@
 // lockreport: a report in numbers over the files that its arguments name (docs/RANDOM.md). Each is a schedule or a table; a line is
 // written for it, and the table goes on to the next. All that matters is in `report`.
+#![tactic(auto)]
+
 mod line;
 mod text;
 

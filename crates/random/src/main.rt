@@ -2,6 +2,8 @@
 // states handed in at random, each with one event. Then short schedules with every pair of bytes, and with every byte at each
 // place. Then reports over lists of the schedules. Then every place in every edition. All are those of docs/RANDOM.md; what is
 // printed is held to what the second program prints of the same page.
+#![tactic(auto)]
+
 mod bytes;
 mod cells;
 mod damage;

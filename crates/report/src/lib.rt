@@ -2,6 +2,8 @@
 //
 // Each function is one definition of `specs/`: `counting` keeps the accounts of the processors call by call, `following` goes
 // along a schedule, `tables` adds, `reporting` judges and lays down.
+#![tactic(auto)]
+
 mod counting;
 mod following;
 pub mod laws;

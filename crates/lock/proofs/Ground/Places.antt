@@ -57,9 +57,8 @@ at_place s p k own P t e q n d =
     let number : (row s p).place ≡ k = ap (λ (r : Row). r.place) (sym e) ∙ q in
     d ∙ ap (λ (P : Place). act P s p) (sym n ∙ ap place_at (sym number))
 
-pub at_nowhere : (s : LockState) (p : ℕ) (own : Row) → own ≡ row s p → Avoids own.place places → s ≡ stepped s p
-at_nowhere s p own e a =
-    at_place s p own.place own nowhere s e refl (place_far own.place (avoids_far own.place places a)) refl
+pub at_nowhere : (s : LockState) (p : ℕ) (own : Row) → own ≡ row s p → places ≤ own.place → s ≡ stepped s p
+at_nowhere s p own e far = at_place s p own.place own nowhere s e refl (place_far own.place far) refl
 
 -- "every step ... changes nothing": all that is asked of place 28 follows from this
 pub lost_same : (s : LockState) (p : ℕ) → s ≡ Acts.lost s p
