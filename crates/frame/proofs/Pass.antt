@@ -1,12 +1,10 @@
 -- The reader's one pass over the pairs of a line: what it takes a byte for, what it knows of the digits, and what it
 -- has put down, pair by pair.
---     letter_fits, worth_is   what a byte is taken for, by the two tests that are made of it
+--     worth_is         what a byte is taken for, by the two tests that are made of it
 --     digits_go_on     two bytes more are tested
 --     pairs_go_on      and put down as a pair
---     pairs_are_all    after the last pair there is nothing else
 -- Assumes nothing.
-use Rattle.std.proofs.Common.{◌≡◌, ℕ, ◌+◌, ◌-◌, ◌*◌, ◌<◌, ◌≤◌, Bool, true, false, cond, ◌&&◌, eqb, ltb, leb, List, [], ◌∷◌, ◌++◌, length, drop, set, sym, refl, ap, ◌∙◌, append-nil, add-one, arith, ltb-true, lt-ltb, eqb-true, leb-true}
-use lib.Seq.{drop-length}
+use Rattle.std.proofs.Common.{◌≡◌, ℕ, ◌+◌, ◌-◌, ◌*◌, ◌<◌, Bool, true, false, cond, ◌&&◌, eqb, ltb, leb, List, [], ◌∷◌, ◌++◌, length, drop, set, sym, refl, ap, ◌∙◌, add-one, arith, ltb-true, lt-ltb, eqb-true}
 use lib.Bits.{bit_or}
 use Rattle.choice.specs.Every.{every}
 use Rattle.choice.proofs.Numbers.{every_at, every_next}
@@ -23,11 +21,6 @@ is_letter b = leb 97 (bit_or b 32) && leb (bit_or b 32) 102
 
 abbrev is_number : ℕ → Bool
 is_number b = leb 48 b && leb b 57
-
-pub letter_fits : (b : ℕ) → is_letter b ≡ true → bit_or b 32 - 97 + 10 < 256
-letter_fits b e =
-    let high : bit_or b 32 ≤ 102 = leb-true (bit_or b 32) 102 (and_right (leb 97 (bit_or b 32)) (leb (bit_or b 32) 102) e) in
-    omega arith
 
 -- what it takes the byte for by them is `worth_of`: computed, for every byte
 abbrev taken : Bool → Bool → ℕ → ℕ
@@ -89,11 +82,3 @@ module _ (text : List ℕ) (i high low : ℕ) (all : Bool)
       ∙ ap (λ (n : ℕ). (pairs_from 0 i text ++ (n ∷ [])) ++ drop (i + 1) before) is-pair
       ∙ ap (λ (ns : List ℕ). ns ++ drop (i + 1) before) (sym (pairs_last i text))
       ∙ ap (λ (n : ℕ). pairs_from 0 n text ++ drop (i + 1) before) (sym (add-one i))
-
-pub pairs_are_all : (text before numbers : List ℕ) (i : ℕ) → i ≡ length before →
-    numbers ≡ pairs_from 0 i text ++ drop i before → numbers ≡ pairs_from 0 (length before) text
-pairs_are_all text before numbers i e so =
-    so
-    ∙ ap (λ (n : ℕ). pairs_from 0 n text ++ drop n before) e
-    ∙ ap (λ (ns : List ℕ). pairs_from 0 (length before) text ++ ns) (drop-length before)
-    ∙ append-nil (pairs_from 0 (length before) text)

@@ -1,6 +1,5 @@
 -- The reader's refusals, by their order.
 --     whole_line      a line that is not torn has all its bytes, and ends in a line feed
---     said_refused, said_accepted      a number and what stands beside it
 --     is_two .. is_five, is_zero   an answer from its condition and those before it
 --     by_order        and back: each is given exactly then
 -- Assumes nothing.
@@ -8,7 +7,7 @@ use Rattle.std.proofs.Common.{◌≡◌, ℕ, ◌+◌, ◌*◌, ◌≤◌, Bool,
 use borrow.Author.Tests.{eqb-false, not-false}
 use Rattle.choice.proofs.Tests.{cases, clash}
 use Rattle.frame.specs.Pairs.{byte_at, pair_at, pairs_from, sum_of, line_feed}
-use Rattle.frame.specs.Reading.{Told, refused_by, said, is_torn, are_digits, read_as, bytes_of}
+use Rattle.frame.specs.Reading.{Told, refused_by, is_torn, are_digits, read_as, bytes_of}
 use Rattle.frame.specs.Laws.{ByOrder, RefusalsGoByOrder}
 
 neither : (a b : Bool) → a || b ≡ false → (a ≡ false) × (b ≡ false)
@@ -22,14 +21,6 @@ whole_line k text e =
     let last = byte_at text (2 * k) in
     let both = neither (ltb (length text) (bytes_of k)) (not (eqb last line_feed)) e in
     (ltb-false (length text) (bytes_of k) both.0, eqb-true last line_feed (not-false (eqb last line_feed) both.1))
-
--- a number and what stands beside it, by whether there is a refusal
-pub said_refused : (number : ℕ) (numbers : List ℕ) → number ≢ 0 → said number numbers ≡ refused_by number
-said_refused number numbers n = simp (ne_eqb number 0 n)
-
-pub said_accepted : (number : ℕ) (numbers : List ℕ) → number ≡ 0 →
-    said number numbers ≡ record { refusal = 0; numbers = numbers }
-said_accepted number numbers e = simp (eq-eqb number 0 e)
 
 module _ (k kind : ℕ) (text : List ℕ) where
   pub is_two : is_torn k text ≡ true → read_as k kind text ≡ refused_by 2

@@ -33,7 +33,7 @@ pub(crate) const REFUSAL: u8 = 5;
 pub(crate) const LINE_FEED: u8 = b'\n';
 
 // What the reader answers: the frame's four numbers, or the refusal's number.
-#[derive(Drop)]
+#[derive(Clone, Copy)]
 pub enum Line {
     Frame(u8, u8, u8, u8),
     Refused(u8),

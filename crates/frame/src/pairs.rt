@@ -37,6 +37,7 @@ pub(crate) fn worth(b: u8) -> u8
 }
 
 // The upper-case digit that stands for v. The byte is tested, and not v, so that both digits of a pair are made alike.
+#[tactic(auto, unfolding(crate::specs::Pairs::digit_of))]
 pub(crate) fn digit(v: u8) -> u8
     requires { v < 16 }
     ensures { result ≡ digit_of v }
@@ -85,6 +86,7 @@ pub(crate) fn sum(values: &[u8]) -> u8
 }
 
 // The value that brings the sum of values to 0.
+#[tactic(auto, using(crate::proofs::Sums::negated_is_check))]
 pub(crate) fn check(values: &[u8]) -> u8
     ensures { result ≡ check_of values.now }
 {

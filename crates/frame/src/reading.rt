@@ -75,6 +75,7 @@ pub(crate) fn read_line(text: &[u8], kind: u8, numbers: &mut [u8]) -> u8
 }
 
 // Whether a line of k pairs is cut short, or does not end in a line feed.
+#[tactic(auto, unfolding(crate::specs::Reading::is_torn))]
 pub(crate) fn is_torn(text: &[u8], k: usize) -> bool
     requires { k < 128 }
     ensures { result ≡ is_torn k text.now }
