@@ -6,7 +6,7 @@ use Rattle.lock.specs.declared.LockState.{LockState}
 use Rattle.lock.specs.State.{old, fresh_state}
 use Rattle.lock.specs.Run.{Call, steps_of, from_to, enters}
 use Rattle.lock.specs.Count.{joins_in, entries_in, interrupts_in}
-use Rattle.lock.specs.Cases.{step, steps}
+use Rattle.lock.specs.Cases.{steps}
 use Rattle.lock.specs.Claims.{reached}
 
 -- "this lock has no joins"

@@ -13,7 +13,6 @@ use mathlib.Core.Logic.{⊎_elim}
 use lib.ListN.{get_or-eq_default}
 use lib.Dec.{ltb}
 use borrow.Author.Tests.{ltb-true, ltb-false}
-use Rattle.choice.proofs.Numbers.{Avoids, avoids_far}
 use Rattle.lock.specs.State.{row}
 use Rattle.lock.specs.Sound.{places}
 use Rattle.lock.specs.Table.{Place, names, place_at, act, stepped, nowhere}

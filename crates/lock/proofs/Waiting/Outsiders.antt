@@ -12,7 +12,7 @@ use borrow.Author.Tests.{eqb-true}
 use Rattle.choice.specs.Every.{every}
 use Rattle.choice.proofs.Tests.{clash, implies, implied, by_test, by_either}
 use Rattle.lock.specs.State.{processors, is_guarded, Released, Preempted, RP, row, to, with_place}
-use Rattle.lock.specs.Table.{Place, place_at, act, stepped, service, back, regain}
+use Rattle.lock.specs.Table.{Place, place_at, act, stepped}
 use Rattle.lock.specs.Run.{Call, after, joins}
 use Rattle.lock.proofs.Ground.Rows.{row_put_same}
 use Rattle.lock.proofs.Ground.Facts.{Phase, outer, queueing, away, holding, releasing, apart, outside, is_away, is_apart, queues, entry, number, normal, phase_at, number_test, at_facts}

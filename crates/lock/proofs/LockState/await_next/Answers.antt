@@ -1,6 +1,5 @@
 -- `lock::LockState::await_next` meets its contract: the row that was read and the test that led here are those of `await`, which as a
 -- word of the code cannot stand in the function's attribute.
-use borrow.Author.Rules.{rules}
 use Rattle.std.proofs.Common.{arith}
 use Rattle.lock.specs.Acts.{await}
 use Rattle.lock.proofs.LockState.await_next.Goals as goal
