@@ -1,6 +1,5 @@
 -- The loop over the later lines, part way: what it has written and what is still to come are the whole log.
 --     begins                   where the loop begins
---     long_still               the buffer keeps its length, whatever line is written
 --     stop_room, stops         a line that is refused: there is room for its refusal, and with it the log is whole
 --     show_room, goes_on       an event that is accepted: there is room for its row, and the loop stands one line further
 --     count_room, count_ends   at the end of the text there is room for the count, and with it the log is whole
@@ -10,7 +9,7 @@ use native.Mathlib.Omega.{arith}
 use native.Mathlib.Numerals.{add-one}
 use mathlib.Core.Path.{◌≡◌, refl, sym, ap, ◌∙◌}
 use mathlib.Core.Logic.{⊎_elim}
-use mathlib.Core.Bool.{true, false, true≢false}
+use mathlib.Core.Bool.{true≢false}
 use mathlib.Core.List.{List, ◌++◌, append_assoc, append-nil}
 use lib.ListN.{length, take, drop, length-drop}
 use lib.Seq.{drop-drop}
@@ -58,11 +57,6 @@ module _ (text : List ℕ) (first : LockState) (buffer out rest : List ℕ) (s :
       (omega (arith, p.long))
       (p.front ∙ ap (λ (l : List ℕ). take at out ++ l) (sym is) ∙ i.log)
       (p.kept ∙ further at (length line) out buffer i.kept)
-
-  -- the buffer keeps its length
-  pub long_still : (line last : List ℕ) → at + length line ≤ length out → last ≡ laid at line out →
-      length last ≡ length buffer
-  long_still line last room e = (put at out line room last e).long ∙ i.long
 
   pub count_room : at + length (counted accepted) ≤ length out
   count_room = omega (arith, count_size accepted, i.room, i.long)

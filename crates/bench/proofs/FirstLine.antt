@@ -3,7 +3,6 @@
 --     laid_first       so is a line that is laid from the first byte on
 --     refusal_room     there is room for the refusal of line 1
 --     open_refused     the refusal alone is the log of a refused line 1
---     later_room       after line 1 there is room for the later lines
 --     begin_follows    line 1 of its numbers, and the later lines behind it, are `begun`
 --     begin_refuses    the refusal alone is `begun`
 -- Assumes nothing.
@@ -68,14 +67,6 @@ module _ (text out : List ℕ) (room : lines_room text ≤ length out) (edition 
 
     behind : mid_of 9 (length front - 9) front ≡ drop 9 out
     behind = part_is 9 front ∙ ap (drop 9) front_is ∙ drop_at line (drop 9 out) 9 nine
-
-    pub front_long : length front ≡ length out
-    front_long =
-        ap length front_is ∙ length-append line (drop 9 out) ∙ omega (arith, nine, whole, length-drop 9 out)
-
-    pub later_room : (later : List ℕ) → later ≡ rest_of text →
-        lines_room later ≤ length (mid_of 9 (length front - 9) front)
-    later_room later f = rw (f, behind) (omega (arith, length-drop 9 text, length-drop 9 out, whole))
 
     module _ (state : eqb a.refusal 0 ≡ true) (later : List ℕ) (f : later ≡ rest_of text) (size : ℕ)
         (g : size ≡ length (later_log a.state later)) (last : List ℕ)

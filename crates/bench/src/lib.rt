@@ -14,7 +14,7 @@ mod turns;
 pub use opening::{bench, room_for};
 
 // What the bench answers: refusal 10 or 0, and how many bytes of the lent buffer the log fills.
-#[derive(Drop)]
+#[derive(Clone, Copy)]
 pub struct Logged {
     pub refusal: u8,
     pub length: usize,

@@ -59,6 +59,7 @@ pub(crate) fn write_counted(out: &mut [u8], at: usize, accepted: usize) -> usize
 }
 
 // The marks of a processor's row after an accepted event, added. A raise at a processor inside is no entry.
+#[tactic(auto, unfolding(crate::specs::Log::marks_of))]
 pub(crate) fn marks(row: Row, event: u8) -> u8
     ensures { result ≡ marks_of row event }
 {

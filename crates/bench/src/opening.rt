@@ -49,6 +49,7 @@ pub(crate) fn open(out: &mut [u8], schedule: &[u8]) -> usize
 }
 
 // The room that a buffer must have for the log of so many bytes.
+#[tactic(auto, unfolding(crate::specs::Lent::room_for))]
 pub fn room_for(bytes: usize) -> usize
     ensures { result ≡ room_for bytes }
 {
