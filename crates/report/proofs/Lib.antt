@@ -6,7 +6,7 @@
 --     Orders                  many schedules, in any order and in parts
 --     Measuring, Laying       the report of a schedule; the lent rows
 --     Witness                 the claims on schedules, computed
---     Values, Seam, Lent      for the walks by hand: machine values, rows while they are filled, what `report` and its tie share
+--     Seam                    rows while they are filled
 pub mod Upto
 pub mod Adding
 pub mod Charging
@@ -19,6 +19,4 @@ pub mod Orders
 pub mod Measuring
 pub mod Laying
 pub mod Witness
-pub mod Values
 pub mod Seam
-pub mod Lent

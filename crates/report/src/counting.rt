@@ -23,7 +23,7 @@ const OLD_POLL: u8 = 24;
 const OLD_SERVICE: u8 = 25;
 
 // What an accepted call was for the processor that made it.
-#[derive(Drop)]
+#[derive(Clone, Copy)]
 pub(crate) struct Did {
     pub joined: bool,
     pub entered: bool,
@@ -32,7 +32,7 @@ pub(crate) struct Did {
 
 // What is known of a processor so far: its tally; whether it has joined; the entries of each processor since its latest join; and
 // the entries of each that its own entries were charged with.
-#[derive(Drop)]
+#[derive(Clone, Copy)]
 pub(crate) struct Account {
     pub tally: Tally,
     pub joined: bool,
@@ -41,6 +41,7 @@ pub(crate) struct Account {
 }
 
 // By the event, and the processor's place before and after it.
+#[tactic(auto, unfolding(crate::specs::Accounts::did_by))]
 pub(crate) fn told_apart(event: u8, before: u8, after: u8) -> Did
     ensures { result ≡ did_by event before after }
 {
@@ -100,6 +101,7 @@ fn more(count: u32, given: bool) -> u32
     if given { count + 1 } else { count }
 }
 
+#[tactic(auto, unfolding(crate::specs::Accounts::tallied))]
 fn with_call(tally: Tally, enters: bool, taken: bool, joins: bool) -> Tally
     requires { TallyFits tally }
     ensures { result ≡ tallied tally «enters» «taken» «joins» }
@@ -112,6 +114,7 @@ fn with_call(tally: Tally, enters: bool, taken: bool, joins: bool) -> Tally
 }
 
 // One entry of p more.
+#[tactic(auto, unfolding(crate::specs::Accounts::raised_at))]
 fn raised_at(row: [u32; 16], p: usize) -> [u32; 16]
     requires p_bound { p < 16 }
     requires p_bound_2 { get_or row p 0 < greatest }
@@ -123,6 +126,7 @@ fn raised_at(row: [u32; 16], p: usize) -> [u32; 16]
 }
 
 // What is pending: dropped at the processor's own join; otherwise p's entry is one more.
+#[tactic(auto, unfolding(crate::specs::Accounts::pending_then))]
 fn pending_then(pending: [u32; 16], p: usize, entered: bool, joins: bool) -> [u32; 16]
     requires p_bound { p < 16 }
     requires p_bound_2 { get_or pending p 0 < greatest }
@@ -138,6 +142,7 @@ fn pending_then(pending: [u32; 16], p: usize, entered: bool, joins: bool) -> [u3
 }
 
 // What is charged: all that is pending, at an entry that a join led to.
+#[tactic(auto, unfolding(crate::specs::Accounts::charged_then))]
 fn charged_then(charged: [u32; 16], pending: [u32; 16], charges: bool) -> [u32; 16]
     requires { Summable charged pending }
     ensures { result ≡ charged_then charged pending «charges» }

@@ -18,7 +18,7 @@ const LONGEST: usize = 54009;
 const TOO_LONG: u8 = 1;
 
 // A schedule's refusal and its line, 0 and 0 for none; N, and the accounts.
-#[derive(Drop)]
+#[derive(Clone, Copy)]
 pub(crate) struct Followed {
     pub refusal: u8,
     pub line: usize,

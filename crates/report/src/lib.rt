@@ -17,7 +17,7 @@ pub use reporting::{by_value, report};
 pub use tables::added;
 
 // One row of what is lent: a processor's entries, interrupts taken and joins in one schedule.
-#[derive(Drop)]
+#[derive(Clone, Copy)]
 pub struct Tally {
     pub entries: u32,
     pub interrupts: u32,
@@ -26,7 +26,7 @@ pub struct Tally {
 
 // What is answered of one schedule: its refusal and the refusal's line, 0 and 0 for none, and the table. Row a, column b: how
 // many entries of a made b wait.
-#[derive(Drop)]
+#[derive(Clone, Copy)]
 pub struct Reported {
     pub refusal: u8,
     pub line: usize,
@@ -34,7 +34,7 @@ pub struct Reported {
 }
 
 // The same by value: what is answered, and how many of the tallies are laid down.
-#[derive(Drop)]
+#[derive(Clone, Copy)]
 pub struct Measured {
     pub told: Reported,
     pub count: usize,
