@@ -1,15 +1,14 @@
 -- The rows while they are filled: so many of the tallies, then the rows as they were.
---     filled          the rows, where i tallies are laid down
---     one_more        one store more
---     length_filled   there are as many rows as before
+--     filled      the rows, where i tallies are laid down
+--     one_more    one store more
 -- Assumes nothing.
-use Prim.Native.Nat.{ℕ, suc, ◌+◌, ◌≤◌, ◌<◌}
+use Prim.Native.Nat.{ℕ, suc, ◌+◌, ◌<◌}
 use native.Mathlib.Nat.{le_of_lt}
 use native.Mathlib.Numerals.{add-one}
 use mathlib.Core.Path.{◌≡◌, sym, ap, ◌∙◌}
 use mathlib.Core.List.{List, ◌++◌}
 use lib.ListN.{length, get_or, set, take, drop}
-use lib.Seq.{take-suc, drop-cons, append_snoc, set_at, length-take-le, length_front}
+use lib.Seq.{take-suc, drop-cons, append_snoc, set_at, length-take-le}
 
 module _ {A : Type 0} (ts xs : List A) where
   abbrev pub filled : ℕ → List A
@@ -22,6 +21,3 @@ module _ {A : Type 0} (ts xs : List A) where
       ∙ sym (append_snoc (take i ts) (get_or ts i d) (drop (suc i) xs))
       ∙ ap (λ (r : List A). r ++ drop (suc i) xs) (sym (take-suc ts i d t))
       ∙ ap filled (sym (add-one i))
-
-  pub length_filled : (i : ℕ) → i ≤ length ts → i ≤ length xs → length (filled i) ≡ length xs
-  length_filled i t x = length_front xs (take i ts) i (length-take-le i ts t ∙ sym (length-take-le i xs x))

@@ -10,9 +10,6 @@ pub loop-b-init : goal.loop-b-init
 unfolding upto
 loop-b-init c = record { within = omega arith; stored = refl }
 
-pub seen-then-requires-clause-fits : goal.seen-then-requires-clause-fits
-seen-then-requires-clause-fits c = c.requires.all_fit c.loop-b.b (omega arith)
-
 pub loop-b-preserved : goal.loop-b-preserved
 loop-b-preserved c =
     let l = c.loop-b in

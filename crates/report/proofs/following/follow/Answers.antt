@@ -79,7 +79,7 @@ loop-rest-preserved c =
     d.result c.row-from.ensures c.row-to.ensures d.ensures in
     goes_on line c.if-did.accounts
     (elim c.if-did.branch [
-      then-did w ↦ changed line d.result did_is c.if-did.accounts (w.accounts-is ∙ w.noted-then.ensures)
+      | then-did w ↦ changed line d.result did_is c.if-did.accounts (w.accounts-is ∙ w.noted-then.ensures)
       | else-did w ↦ w.accounts-is ∙ quiet line d.result did_is w.if-did.false
     ])
     c.rest-left.result.now c.rest-left.ensures

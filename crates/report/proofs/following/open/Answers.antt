@@ -1,6 +1,6 @@
 -- `report::following::open` meets its contract: by what the reader answers, line 1's numbers or its refusal.
 use Rattle.std.proofs.Common.{sym}
-use Rattle.report.proofs.Opening.{read_first, unread_first, follows_refused}
+use Rattle.report.proofs.Opening.{unread_first, follows_refused}
 use Rattle.report.proofs.following.open.Goals as goal
 
 pub returns-in-Refused : goal.returns-in-Refused

@@ -2,9 +2,6 @@
 use Rattle.report.specs.Accounts.{seen_by}
 use Rattle.report.proofs.counting.Account.seen.Goals as goal
 
-pub pending_then-requires-clause-p_bound_2 : goal.pending_then-requires-clause-p_bound_2
-pending_then-requires-clause-p_bound_2 c = c.requires.fits.pending c.args.p c.requires.p_bound
-
 pub returns : goal.returns
 unfolding seen_by
 returns c = simp (c.with_call.ensures, c.pending_then.ensures, c.charged_then.ensures)
