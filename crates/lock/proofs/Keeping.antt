@@ -1,7 +1,7 @@
 -- Soundness is kept: the acts put together into a step, an event and a run, and the claims of Kept proved. Parts has
 -- soundness in parts, Puts the puts, Acts the acts one by one. A whole state is a sound one with its sixteen rows.
 --     step_kept, after_kept, event_kept, run_kept      a step, an event, refused or not, and a schedule keep a whole state whole
---     fresh_kept                           the fresh state is whole, and so is the filler
+--     fresh_whole, fresh_kept              the fresh state is whole, and so is the filler
 --     fresh_is_sound, sound_is_kept, never_unsound         the claims
 pub mod Parts
 pub mod Puts
@@ -50,7 +50,7 @@ pub event_kept : (s : LockState) (event p : ℕ) → Whole s → Whole (happens 
 unfolding after
 event_kept s event p w = after_kept s (record { event = event; processor = p }) w
 
-run_kept : (s : LockState) (calls : List Call) → Whole s → Whole (run s calls)
+pub run_kept : (s : LockState) (calls : List Call) → Whole s → Whole (run s calls)
 unfolding run
 run_kept s [] w = w
 run_kept s (c ∷ cs) w = run_kept (after s c) cs (after_kept s c w)
@@ -69,7 +69,7 @@ fresh_fits e n i small =
       fresh = λ far room. refl;
     }
 
-fresh_whole : (e n : ℕ) → ltb e editions ≡ true → leb 1 n ≡ true → leb n processors ≡ true → Whole (fresh_state e n)
+pub fresh_whole : (e n : ℕ) → ltb e editions ≡ true → leb 1 n ≡ true → leb n processors ≡ true → Whole (fresh_state e n)
 unfolding fresh_state
 fresh_whole e n small least most =
     whole

@@ -16,7 +16,7 @@ impl LockState {
         }
     }
 
-    pub(crate) fn put_row(self, p: u8, r: Row) -> LockState
+    pub fn put_row(self, p: u8, r: Row) -> LockState
         ensures { result ≡ put_row self p r }
     {
         let mut s = self;
@@ -26,7 +26,7 @@ impl LockState {
         s
     }
 
-    pub(crate) fn put_tail(self, q: u8) -> LockState
+    pub fn put_tail(self, q: u8) -> LockState
         ensures { result ≡ put_tail self q }
     {
         let mut s = self;

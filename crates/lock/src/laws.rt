@@ -1,11 +1,17 @@
 // Facts about the definitions, each the promise of an empty function, so that the check names it as proved.
 ghost use Rattle.lock.specs.Cases.{CasesHold};
 ghost use Rattle.lock.specs.Places.{SetsByName, RuleIsTheLists, EachPlaceSaidOnce};
+ghost use Rattle.lock.specs.Touched.{OneEventTouches};
 ghost use Rattle.lock.specs.Unique.{OnlyOneAnswer};
 
 // Document 01's cases P1 to P12.
 pub fn cases_hold()
     ensures { CasesHold }
+{}
+
+// What one event writes: two rows and L, which put back give the state before it.
+pub fn one_event_touches()
+    ensures { OneEventTouches }
 {}
 
 // Each public contract leaves room for only one answer.

@@ -2,7 +2,7 @@
 // function, so that a public contract that says less is refused. Nobody calls these. (The functions of `claims`, `kept` and `laws`
 // are empty: their proofs are of their contracts alone.)
 ghost use Rattle.std.specs.Prelude.{◌≡◌};
-ghost use Rattle.lock.specs.State.{row};
+ghost use Rattle.lock.specs.State.{row, put_row, put_tail};
 ghost use Rattle.lock.specs.Sound.{sound};
 ghost use Rattle.lock.specs.Event.{fresh, happens, carried};
 
@@ -18,6 +18,18 @@ fn told_row(s: LockState, p: u8) -> Row
     ensures { result ≡ row s p }
 {
     s.row(p)
+}
+
+fn told_put_row(s: LockState, p: u8, r: Row) -> LockState
+    ensures { result ≡ put_row s p r }
+{
+    s.put_row(p, r)
+}
+
+fn told_put_tail(s: LockState, q: u8) -> LockState
+    ensures { result ≡ put_tail s q }
+{
+    s.put_tail(q)
 }
 
 fn told_is_sound(s: LockState) -> bool

@@ -1,18 +1,22 @@
 -- Any sequence of calls of the library's `event` from `LockState::fresh` is a run of the step table
--- (calls_are_a_run). In order: what the fresh state's refusals leave, and one more call at the end of a run.
+-- (calls_are_a_run). In order: what the fresh state's refusals leave, that a fresh state in range is whole (range_whole), and one more
+-- call at the end of a run.
 use Prim.Native.Nat.{ℕ, zero, suc, ◌<◌}
 use native.Mathlib.Omega.{arith}
 use mathlib.Core.Path.{◌≡◌, refl, sym, ap, ◌∙◌, subst}
 use mathlib.Core.Bool.{Bool, true, false, ◌||◌, cond}
 use mathlib.Core.List.{[], ◌∷◌}
 use lib.Dec.{eqb, ltb, leb}
-use borrow.Author.Tests.{ltb-false, leb-false, eqb-false}
+use borrow.Author.Tests.{ltb-false, leb-false, eqb-false, ne_eqb, le-leb}
+use Rattle.choice.proofs.Tests.{clash}
 use Rattle.lock.specs.declared.LockState.{LockState}
 use Rattle.lock.specs.declared.Answer.{Answer}
 use Rattle.lock.specs.State.{processors, editions, is_plain, is_drawn, is_guarded, is_old, fresh_state}
 use Rattle.lock.specs.Event.{accepted, refused, filler, fresh}
 use Rattle.lock.specs.Run.{after, run}
-use Rattle.lock.specs.Claims.{made, answered, IsRun, CallsAreARun}
+use Rattle.lock.specs.Kept.{Whole}
+use Rattle.lock.specs.Claims.{AnyEdition, made, answered, IsRun, CallsAreARun}
+use Rattle.lock.proofs.Keeping.{fresh_whole}
 use Rattle.lock.proofs.Waiting.Counting.{run_append}
 
 -- an edition that there is is one of the four
@@ -22,6 +26,20 @@ edition_named (suc zero) h = refl
 edition_named (suc (suc zero)) h = refl
 edition_named (suc (suc (suc zero))) h = refl
 edition_named (suc (suc (suc (suc e)))) h = absurd (omega arith)
+
+-- and one of the four is one that there is
+named_there : (e : ℕ) → (is_plain e || is_drawn e || is_guarded e || is_old e) ≡ true → ltb e editions ≡ true
+named_there zero h = refl
+named_there (suc zero) h = refl
+named_there (suc (suc zero)) h = refl
+named_there (suc (suc (suc zero))) h = refl
+named_there (suc (suc (suc (suc e)))) h =
+    let past : (k : ℕ) → k < editions → eqb (suc (suc (suc (suc e)))) k ≡ false = λ k low. ne_eqb _ k (λ q. absurd (omega arith)) in
+    clash h (simp (past 0 (omega arith), past 1 (omega arith), past 2 (omega arith), past 3 (omega arith)))
+
+pub range_whole : (e n : ℕ) → AnyEdition e n → Whole (fresh_state e n)
+range_whole e n r =
+    fresh_whole e n (named_there e r.edition) (le-leb 1 n r.least) (le-leb n processors r.most)
 
 -- the fresh state's answer, by the outcomes of its tests
 abbrev fresh_by : Bool → Bool → Bool → LockState → Answer

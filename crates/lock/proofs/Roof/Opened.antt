@@ -1,5 +1,5 @@
 -- What it takes to compute a run: to unfold `computed` is to unfold every definition that its line names. The computed proofs,
--- Computed and Witness, name it instead of the list.
+-- Computed, Witness and those of the crates above, name it instead of the list.
 use mathlib.Core.Bool.{Bool, true}
 use Rattle.choice.specs.Every.{every}
 use Rattle.lock.specs.State.{fresh_state, row, put_row, put_tail, put_next, put_locked, put_guard, put_flag, to, put_pred, put_succ, put_nx}
