@@ -1,15 +1,33 @@
 // lockbench: a schedule on standard input, its log on standard output. All that matters is in `bench`.
 #![tactic(auto)]
 
-use libc::{STDIN_FILENO, STDOUT_FILENO};
+ghost use Rattle.std.specs.Prelude.{◌≤◌, length};
 
-fn main() {
+use std::io::Read;
+
+fn main(rt: HostRuntime) {
     // One byte more than the longest schedule, so that a longer one is seen.
     let mut schedule = [0u8; 54010];
-    let n = io::read_full(STDIN_FILENO, &mut schedule);
+    let n = read_full(&mut rt.stdin(), &mut schedule);
     // Room for the log of 6,001 lines.
     let mut log = [0u8; 102028];
     let logged = bench::bench(&schedule[..n], &mut log);
     let length = logged.length;
-    io::write_all(STDOUT_FILENO, &log[..length]);
+    // A log that cannot be written is cut short, which its reader sees by its last line.
+    let _ = rt.write_all(&log[..length]);
+}
+
+// Reads until the buffer is full, the input ends or a read fails; answers how many bytes it put at the buffer's start.
+fn read_full<R: Read>(input: &mut R, buffer: &mut [u8]) -> usize
+    ensures { result ≤ length buffer.new }
+{
+    let mut done = 0;
+    while done < buffer.len() {
+        let got = input.read(&mut buffer[done..]).unwrap_or(0);
+        if got == 0 {
+            break;
+        }
+        done += got;
+    }
+    done
 }

@@ -1,25 +1,24 @@
 // The line of one answer: decimal numbers with single spaces. It is put together in a buffer and written by one call, since there
 // may be thousands of files.
-use libc::STDOUT_FILENO;
 use report::{Measured, Tally};
 
 // Room for the longest line, which has 3 short numbers and 48 of ten digits.
 const ROOM: usize = 600;
 
 // The line of a schedule: the refusal, its line and the number of rows laid down, then these rows.
-pub fn tell(measured: Measured) {
+pub fn tell(rt: &impl Print, measured: Measured) {
     let told = measured.told;
     let mut line = [0u8; ROOM];
     let head = heading(&mut line, told.refusal, told.line, measured.count);
     let end = rows(&mut line, head, measured);
-    write(&mut line, end);
+    write(rt, &mut line, end);
 }
 
 // The line of a table that is added: no rows, and no line.
-pub fn tell_added(refusal: u8) {
+pub fn tell_added(rt: &impl Print, refusal: u8) {
     let mut line = [0u8; ROOM];
     let end = heading(&mut line, refusal, 0, 0);
-    write(&mut line, end);
+    write(rt, &mut line, end);
 }
 
 fn heading(line: &mut [u8; ROOM], refusal: u8, at_line: usize, count: usize) -> usize {
@@ -77,13 +76,14 @@ fn byte(line: &mut [u8; ROOM], at: usize, b: u8) -> usize {
 }
 
 // The line's end, and all of it out.
-fn write(line: &mut [u8; ROOM], at: usize) {
+fn write(rt: &impl Print, line: &mut [u8; ROOM], at: usize) {
     let length = byte(line, at, b'\n');
-    out(line, length);
+    out(rt, line, length);
 }
 
-fn out(line: &[u8], length: usize) {
+// A line that cannot be written is left out; who reads the answers counts them.
+fn out(rt: &impl Print, line: &[u8], length: usize) {
     if length <= line.len() {
-        io::write_all(STDOUT_FILENO, &line[..length]);
+        let _ = rt.write_all(&line[..length]);
     }
 }

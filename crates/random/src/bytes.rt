@@ -8,14 +8,14 @@ pub const VALUES: u64 = 256;
 pub const PLACES: u64 = 18;
 
 // What goes through all values: the second byte of a pair that begins with this byte, or the byte at this place.
-#[derive(Drop)]
+#[derive(Clone, Copy)]
 pub enum Sweep {
     Pair(u8),
     Place(usize),
 }
 
 // The logs of a sweep: their length together, and their digest as one text.
-#[derive(Drop)]
+#[derive(Clone, Copy)]
 pub struct Logs {
     pub length: u64,
     pub digest: u64,

@@ -35,7 +35,7 @@ const NEAR_EDITIONS: u64 = 5;
 const NEAR_PLACES: u64 = 32;
 
 // The cell that takes the value, and the dice after it. A row that is hit goes to `place` before, if the edition has it.
-#[derive(Drop)]
+#[derive(Clone, Copy)]
 struct Hit {
     cell: u64,
     row: u64,

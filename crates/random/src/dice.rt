@@ -1,5 +1,5 @@
 // The number generator of docs/RANDOM.md.
-#[derive(Drop)]
+#[derive(Clone, Copy)]
 pub struct Dice {
     pub x: u64,
     // what the last roll gave

@@ -12,7 +12,7 @@ const EACH: u64 = 600;
 const OLD_FROM: u64 = 60000;
 
 // How many events of a block were accepted, and the answers' digest.
-#[derive(Drop)]
+#[derive(Clone, Copy)]
 pub struct Block {
     pub accepted: u64,
     pub digest: u64,

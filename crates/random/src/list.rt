@@ -11,7 +11,7 @@ const LONGEST: u64 = 6;
 pub const LENT: u64 = 18;
 
 // The number of each schedule and its lent rows, and the dice after them.
-#[derive(Drop)]
+#[derive(Clone, Copy)]
 pub struct List {
     pub size: u64,
     pub numbers: [u64; 6],

@@ -20,7 +20,7 @@ pub const UPPER: u64 = 0;
 
 pub const LOWER: u64 = 1;
 
-#[derive(Drop)]
+#[derive(Clone, Copy)]
 pub struct Plan {
     pub edition: u64,
     pub n: u64,

@@ -4,7 +4,7 @@ use crate::{cells, digest, list, plan, text};
 use report::{Measured, Tally};
 
 // What is told of a list: how many schedules are refused, the digest of all answers, and that of the table at the end.
-#[derive(Drop)]
+#[derive(Clone, Copy)]
 pub struct Told {
     pub refused: u64,
     pub answers: u64,

@@ -6,14 +6,14 @@ use lock::{LockState, Row};
 pub const OLD: u64 = LockState::OLD as u64;
 
 // A state with the dice after it.
-#[derive(Drop)]
+#[derive(Clone, Copy)]
 pub struct Made {
     pub state: LockState,
     pub dice: Dice,
 }
 
 // A row with the dice after it.
-#[derive(Drop)]
+#[derive(Clone, Copy)]
 struct Drawn {
     row: Row,
     dice: Dice,

@@ -67,7 +67,7 @@ fn outside(d: Dice) -> Dice {
 }
 
 // where the text ends, the dice and the processor after a line
-#[derive(Drop)]
+#[derive(Clone, Copy)]
 struct Made {
     at: usize,
     p: u64,

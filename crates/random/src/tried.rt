@@ -14,7 +14,7 @@ const ROWS: usize = LockState::PROCESSORS as usize;
 const TRIALS: usize = PLACES * ROWS;
 
 // How many events of an edition were accepted, the refusals' digest, and for each place how many rows were accepted with it.
-#[derive(Drop)]
+#[derive(Clone, Copy)]
 pub struct Tried {
     pub accepted: u64,
     pub digest: u64,
