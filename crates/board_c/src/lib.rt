@@ -1,5 +1,7 @@
-// The library that C and Rust programs link, `libboard.a`: each function is board's of that name, with its clauses.
+// The static library that C and Rust programs link: each function is board's of that name, with its clauses.
 #![tactic(auto)]
+
+mod told;
 
 ghost use Rattle.std.specs.Prelude.{◌≡◌, [], ◌∷◌, length, eqb, ltb};
 ghost use Rattle.frame.specs.Writing.{line_of, leaves};

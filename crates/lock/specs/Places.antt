@@ -1,7 +1,7 @@
 -- Request [5], "the rule written out: what the plain lock has, what interrupts add, what the guard adds"; and, since requests [1]
 -- and [2], what the drawn edition's second read adds and what the old boards' lock has. What an edition has is said by the lists in
 -- Sound, which are the documents'; this page tells the rule behind them, and that it comes to the same.
---     has_by_rule             the place k is one that edition e has, by the rule
+--     has_by_rule           the place k is one that edition e has, by the rule
 --     SetsByName            the places of each set by their names in the step table
 --     RuleIsTheLists        the rule and the lists say the same
 --     EachPlaceSaidOnce     what is added was not there before

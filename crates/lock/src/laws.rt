@@ -2,7 +2,7 @@
 ghost use Rattle.lock.specs.Cases.{CasesHold};
 ghost use Rattle.lock.specs.Places.{SetsByName, RuleIsTheLists, EachPlaceSaidOnce};
 ghost use Rattle.lock.specs.Touched.{OneEventTouches};
-ghost use Rattle.lock.specs.Unique.{OnlyOneAnswer};
+ghost use Rattle.lock.specs.Unique.{OnlyOneAnswer, OnlyOnePut};
 
 // Document 01's cases P1 to P12.
 pub fn cases_hold()
@@ -17,6 +17,11 @@ pub fn one_event_touches()
 // Each public contract leaves room for only one answer.
 pub fn only_one_answer()
     ensures { OnlyOneAnswer }
+{}
+
+// And so do those of the two puts.
+pub fn only_one_put()
+    ensures { OnlyOnePut }
 {}
 
 // Which places an edition has: the sets of the rule by name.
