@@ -51,40 +51,32 @@ make_work() {
 
 # ---- the program
 
-# `rt check` goes by the content of the sources: it proves and builds the program where that is out of date, and otherwise
-# takes a tenth of a second. What runs is a copy, $work/program.
+# `rt run` goes by the content of the sources and of the program: it proves and builds the program where that is out of date, and
+# then runs it, here once on nothing, so that the status says whether there is one. Where nothing has changed this takes some
+# tenths of a second. What runs on the input is a copy, $work/program.
 get_program() {
     for tool in rt flock; do
         command -v $tool >/dev/null || fail "$tool is needed and not on the path"
     done
-    # One at a time. The lock is on this folder, as `rt ci` removes target/; it lasts until 9 is closed here and in all that rt
-    # started. The copy is made under the lock, so a later build cannot change it meanwhile.
+    # One at a time. The lock is on this folder, as `rt ci` moves what each crate has in out/; it lasts until 9 is closed here and
+    # in all that rt started. The copy is made under the lock, so a later build cannot change it meanwhile.
     exec 9<"$here"
     flock -w 2 9 || {
         echo "$me: waiting until another one has proved and built the program" >&2
         flock 9 || fail "$here cannot be locked"
     }
-    # where rt cannot write its notes it goes by the old ones
-    if [ -e "$here/target/log" ] && [ -n "$(find "$here/target/log" ! -writable)" ]; then
-        fail "target/log cannot be written to, so rt cannot tell whether the program is out of date"
-    fi
-    program=$here/target/bin/$me
-    [ -e "$program" ] || echo "$me: proving and building the program, which takes a minute or two" >&2
-    (cd "$here" && rt check "$me") </dev/null >"$work/said" 2>&1 || {
+    program=$here/crates/$me/out/$me
+    # beside it rt notes what it was built from; `rt ci` leaves a program without such a note
+    [ -e "$program.stamp" ] || echo "$me: proving and building the program, which takes some minutes" >&2
+    (cd "$here/crates/$me" && rt run) </dev/null >"$work/said" 2>&1 || {
         cat "$work/said" >&2
-        fail "rt check failed, so there is no program that is up to date"
+        fail "rt run failed, so there is no program that is up to date"
     }
-    cp "$program" "$work/program" || fail "rt counts the program as built; remove the folder target/ to have it built again"
+    cp "$program" "$work/program" || fail "rt run ended well, and the program is gone again; remove ${program%/*} to have it built again"
     exec 9<&-
-
-    # it runs under the kit's own loader and C library, and off x86-64 under the kit's emulator
-    tools=$(dirname "$(dirname "$(rt doc)")")/on/$(uname -m)/toolchain
-    emulator=$tools/bin/qemu-x86_64
-    [ -x "$emulator" ] || emulator=
 }
 
 # run_program ARGUMENT..
 run_program() {
-    ${emulator:+"$emulator"} "$tools/lib/ld-linux-x86-64.so.2" --library-path "$tools/lib" "$work/program" "$@" ||
-        fail "the program could not be run, or broke off with status $?"
+    "$work/program" "$@" || fail "the program could not be run, or broke off with status $?"
 }
