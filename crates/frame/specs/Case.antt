@@ -3,7 +3,7 @@
 --     is_lower          the byte is one of a to f
 --     upper_of          a to f raised to A to F, and every other byte as it is
 --     upper_case        so every byte of a text
---     EqualUpToCase    "equal up to the case of the digits"
+--     EqualUpToCase     "equal up to the case of the digits"
 use Rattle.std.specs.Prelude.{◌≡◌, ℕ, ◌-◌, Bool, cond, ◌&&◌, List, map, nat_le}
 
 -- 97 to 102 are the bytes of a to f

@@ -1,10 +1,10 @@
 -- Document 01, "Frames": "A frame is pairs of upper-case hexadecimal digits and a line feed. The last pair is the check: the sum
 -- of all pairs, wrapping at 256, is 0." With request [3] the reader takes a to f too. For lines of any number of pairs.
 --     line_feed                     what ends a line
---     is_digit, value_of             the digit's rule for reading; worth_of, a byte as the reader takes it
+--     is_digit, value_of            the digit's rule for reading; worth_of, a byte as the reader takes it
 --     digit_of                      the digit's rule for writing
---     byte_at, pair_at, pairs_from    the bytes and the pairs of a text
---     sum_of, check_of               the sum of all pairs, and what brings it to 0
+--     byte_at, pair_at, pairs_from  the bytes and the pairs of a text
+--     sum_of, check_of              the sum of all pairs, and what brings it to 0
 use Rattle.std.specs.Prelude.{ℕ, zero, suc, ◌+◌, ◌-◌, ◌*◌, ◌%◌, Bool, cond, ◌&&◌, ◌||◌, List, [], ◌∷◌, nat_le, nat_lt, slice_index}
 use Rattle.frame.specs.Case.{is_lower}
 

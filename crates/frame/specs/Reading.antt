@@ -1,7 +1,7 @@
 -- Document 01, "Frames" and "What is turned away", 2 to 5: what the reader answers to a text, and the part that follows a line.
 --     Told, told, refused_by, said   what an answer says: the refusal's number and the frame's numbers
---     bytes_of, is_torn, are_digits    the tests of a line of k pairs
---     read_as, kind_of, reads         what is said of a line: of k pairs and a given kind; of the line that is wanted
+--     bytes_of, is_torn, are_digits  the tests of a line of k pairs
+--     read_as, kind_of, reads        what is said of a line: of k pairs and a given kind; of the line that is wanted
 --     rest_of                        the part that follows
 use Rattle.std.specs.Prelude.{ℕ, ◌+◌, ◌*◌, Bool, cond, not, ◌||◌, List, [], ◌∷◌, length, drop, ◌==◌, nat_lt}
 use Rattle.frame.specs.declared.Line.{Line}

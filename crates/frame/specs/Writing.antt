@@ -1,6 +1,6 @@
 -- Document 01, "Frames": the line that is written of given values, and what a lent buffer holds afterwards.
 --     Bytes               values that a pair of digits can say
---     digits_of, line_of    the line of any values
+--     digits_of, line_of  the line of any values
 --     writes, leaves      what is answered, and what is left in the buffer
 --     header_line, row_line, count_line, refusal_line    the lines 01, 03, 04 and 05
 use Rattle.std.specs.Prelude.{ℕ, ◌/◌, ◌%◌, ◌<◌, cond, List, [], ◌∷◌, ◌++◌, length, drop, nat_le}

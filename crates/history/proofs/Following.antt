@@ -1,5 +1,5 @@
 -- The lock's state as a layer of AnyState: a history follows the pile of the calls that are not undone.
---     lock_layer            the lock's state, its events, and the entries of specs/Journal
+--     lock_layer           the lock's state, its events, and the entries of specs/Journal
 --     pile_state           the state after a pile is the run of its calls
 --     Ready, ready         a history that follows a pile is whole, and its newest entry brings back a sound state
 --     goes_follows         an event keeps that

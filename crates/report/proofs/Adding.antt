@@ -1,6 +1,6 @@
 -- A table added to a table, row by row as the code has it.
 --     fits, sum                     two rows at a place: their sum is a count; their sum
---     rows_fit, rows_sum              two tables at a row, likewise
+--     rows_fit, rows_sum            two tables at a row, likewise
 --     sum_fits, row_fits            where every sum is a count, each is
 --     same_test, same_sums          row by row is the same as cell by cell
 -- Assumes nothing.

@@ -4,7 +4,7 @@
 --     Entry, entry             a row of the table, and the table: number, phase, role, locked, where its act leads
 --     number, normal           the number of a place; and of the place at m, which is m unless m is no place
 --     waits, spent, outside, is_away, is_apart, queues       ranges of phases
---     Facts, facts, facts_at    what the invariants ask of a place, by its name and by its number
+--     Facts, facts, facts_at   what the invariants ask of a place, by its name and by its number
 --     bears, settled           who has the token; which locked the order argument allows
 --     back_role                the roles of service and regain
 --     number_test              the number of the place at m is v exactly when m is v

@@ -3,7 +3,7 @@
 --     row_put_other    every other row is as it was
 --     rows_put         there are as many rows as before
 --     put_far          a row that is not there is not replaced
---     get_d_any         an index within a list needs no default
+--     get_d_any        an index within a list needs no default
 --     length_mapped    a list is as long as what a function makes of it
 --     row_within       so a row that is there is what stands at its number
 use Prim.Native.Nat.{ℕ, zero, suc, ◌<◌, ◌≤◌}

@@ -1,9 +1,9 @@
 -- The ghost state of the order argument: joins are numbered, and each processor remembers the number of its latest join.
 -- Both are functions of the events so far.
---     is_ordered                the editions for which order is claimed; ordered_queue: not that of the old boards
+--     is_ordered               the editions for which order is claimed; ordered_queue: not that of the old boards
 --     Tickets, ticketed        the numbers given out, and what a call makes of them
 --     by_call                  a statement of state and tickets, by what becomes of a call
---     is_member               who stands in the queue, its front holder included
+--     is_member                who stands in the queue, its front holder included
 use Prim.Native.Nat.{ℕ, suc}
 use mathlib.Core.Path.{◌≡◌, refl, sym, subst, ◌∙◌}
 use mathlib.Core.Bool.{Bool, true, false, cond, ◌&&◌, ◌||◌}

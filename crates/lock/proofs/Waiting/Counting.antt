@@ -1,6 +1,6 @@
 -- Laws of what Count counts, over any run; nothing here knows what a call does.
 --     run_append                      a run goes on where the first part ended
---     tickets_of                       the tickets after a run
+--     tickets_of                      the tickets after a run
 --     count_yes, count_no             one more call
 --     count_none                      where nothing is counted, not in the first call and not in the rest
 --     count_append                    a count goes on where the first part ended

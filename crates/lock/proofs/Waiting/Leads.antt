@@ -1,6 +1,6 @@
 -- Where each act of the step table leads: `goes` says of any test that passes every place to which the table of places lets an
 -- act lead that it passes the place where the act ends. A new row of the step table is a law of its act here.
---     all_of            the test passes each place of a list of numbers
+--     all_of           the test passes each place of a list of numbers
 --     goes             a step of p ends where the test passes; the other rows are as Goes says
 --     unjoined_leads   where the act of a place leads that is neither the swap nor one of the old boards' lock, by one computed test
 use Prim.Native.Nat.{ℕ, suc, ◌<◌}
