@@ -16,7 +16,7 @@ use lib.Seq.{drop-drop, take_at, drop_at}
 use lib.Dec.{eqb}
 use borrow.Author.Tests.{le-leb}
 use borrow.Rule.Slice.PartMut.{mid_of, put_mid}
-use Rattle.lock.specs.declared.Answer.{Answer}
+use Rattle.lock.specs.Event.{Answer}
 use Rattle.lock.specs.Event.{fresh}
 use Rattle.frame.specs.Reading.{refused_by, reads, rest_of}
 use Rattle.frame.specs.Writing.{leaves, header_line}

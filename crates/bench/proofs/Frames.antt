@@ -11,7 +11,7 @@ use lib.Dec.{eqb}
 use native.Mathlib.Omega.{arith}
 use borrow.Author.Tests.{ne_eqb}
 use Rattle.lock.specs.declared.LockState.{LockState}
-use Rattle.lock.specs.declared.Answer.{Answer}
+use Rattle.lock.specs.Event.{Answer}
 use Rattle.lock.specs.Event.{happens}
 use Rattle.frame.specs.Pairs.{pairs_from}
 use Rattle.frame.specs.Reading.{Told, refused_by, kind_of, reads}

@@ -14,7 +14,7 @@ use borrow.Author.Tests.{eqb-true}
 use Rattle.choice.proofs.Tests.{cases}
 use Rattle.lock.specs.declared.Row.{Row}
 use Rattle.lock.specs.declared.LockState.{LockState}
-use Rattle.lock.specs.declared.Answer.{Answer}
+use Rattle.lock.specs.Event.{Answer}
 use Rattle.lock.specs.State.{row}
 use Rattle.lock.specs.Event.{happens}
 use Rattle.frame.specs.Reading.{kind_of, reads}

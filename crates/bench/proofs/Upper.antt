@@ -15,7 +15,7 @@ use borrow.Author.Tests.{eqb-true, eqb-false, ltb-true, ltb-false, leb-true, leb
 use Rattle.choice.proofs.Tests.{cases, clash, and_left, and_right, by_test}
 use Rattle.lock.specs.declared.Row.{Row}
 use Rattle.lock.specs.declared.LockState.{LockState}
-use Rattle.lock.specs.declared.Answer.{Answer}
+use Rattle.lock.specs.Event.{Answer}
 use Rattle.lock.specs.State.{processors, editions, is_none, RP, row}
 use Rattle.lock.specs.Sound.{places, none_or_below, has_place, sound}
 use Rattle.lock.specs.Event.{is_step, is_raise, fresh, happens}

@@ -8,7 +8,7 @@ use Rattle.std.proofs.Common.{◌≡◌, ℕ, zero, suc, ◌%◌, ◌<◌, Bool,
 use borrow.Author.Tests.{eqb-false}
 use Rattle.choice.proofs.Tests.{and_both}
 use Rattle.lock.specs.declared.LockState.{LockState}
-use Rattle.lock.specs.declared.Answer.{Answer}
+use Rattle.lock.specs.Event.{Answer}
 use Rattle.lock.specs.State.{row}
 use Rattle.lock.specs.Sound.{sound}
 use Rattle.lock.specs.Event as Lock

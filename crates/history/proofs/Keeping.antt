@@ -6,7 +6,7 @@ use Rattle.std.proofs.Common.{◌≡◌, ℕ, ◌-◌, ◌<◌, ◌≤◌, Bool,
 use borrow.Author.Tests.{eqb-false}
 use Rattle.choice.proofs.Tests.{and_left, and_right, and_both, by_test}
 use Rattle.lock.specs.declared.LockState.{LockState}
-use Rattle.lock.specs.declared.Answer.{Answer}
+use Rattle.lock.specs.Event.{Answer}
 use Rattle.lock.specs.State.{processors, put_row, put_tail}
 use Rattle.lock.specs.Sound.{sound}
 use Rattle.lock.specs.Event as Lock

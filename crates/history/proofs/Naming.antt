@@ -7,7 +7,7 @@ use Rattle.std.proofs.Common.{◌≡◌, ℕ, zero, suc, ◌%◌, true, false, c
 use borrow.Author.Tests.{eqb-false}
 use Rattle.choice.proofs.Tests.{by_test}
 use Rattle.lock.specs.declared.LockState.{LockState}
-use Rattle.lock.specs.declared.Answer.{Answer}
+use Rattle.lock.specs.Event.{Answer}
 use Rattle.lock.specs.State.{fresh_state}
 use Rattle.lock.specs.Event.{carried}
 use Rattle.lock.specs.Run.{Call}

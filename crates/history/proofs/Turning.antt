@@ -4,7 +4,7 @@
 --     goes_turned                  the answer, put together from its parts
 use Rattle.std.proofs.Common.{◌≡◌, ℕ, Bool, true, false, cond, not, eqb, get_or, set, sym, refl, ap, ◌∙◌, eqb-true}
 use lib.Seq.{set-get_or}
-use Rattle.lock.specs.declared.Answer.{Answer}
+use Rattle.lock.specs.Event.{Answer}
 use Rattle.lock.specs.Event.{carried}
 use Rattle.history.specs.declared.Entry.{Entry}
 use Rattle.history.specs.declared.Journal.{Journal}

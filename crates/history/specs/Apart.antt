@@ -2,7 +2,7 @@
 -- the state, and of the journal's slot, position and depth. That this is the event is proved in proofs/Turning.
 use Rattle.std.specs.Prelude.{ℕ, cond, not, ◌==◌, slice_index_or, slice_set}
 use Rattle.lock.specs.declared.LockState.{LockState}
-use Rattle.lock.specs.declared.Answer.{Answer}
+use Rattle.lock.specs.Event.{Answer}
 use Rattle.lock.specs.Event.{carried}
 use Rattle.history.specs.declared.Entry.{Entry}
 use Rattle.history.specs.declared.Journal.{Journal}

@@ -3,7 +3,7 @@
 -- again, where a handed-in journal would bring back an unsound state." So the order for an undo is 11, 8, 9, 14, 11.
 use Rattle.std.specs.Prelude.{ℕ, Bool, cond, not, ◌&&◌, ◌==◌, nat_lt}
 use Rattle.lock.specs.declared.LockState.{LockState}
-use Rattle.lock.specs.declared.Answer.{Answer}
+use Rattle.lock.specs.Event.{Answer}
 use Rattle.lock.specs.Sound.{sound}
 use Rattle.lock.specs.Event.{fresh, carried}
 use Rattle.history.specs.declared.Entry.{Entry}

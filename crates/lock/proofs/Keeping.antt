@@ -14,7 +14,7 @@ use mathlib.Core.List.{List, [], ◌∷◌}
 use lib.Dec.{eqb, ltb, leb}
 use borrow.Author.Tests.{ltb-false, leb-true, leb-false, eqb-false, le-leb, lt-ltb}
 use Rattle.lock.specs.declared.LockState.{LockState}
-use Rattle.lock.specs.declared.Answer.{Answer}
+use Rattle.lock.specs.Event.{Answer}
 use Rattle.choice.specs.Every.{every}
 use Rattle.lock.specs.State.{processors, editions, fresh_row, fresh_state, row}
 use Rattle.lock.specs.Sound.{has_place, place_sound, as_fresh, sound}

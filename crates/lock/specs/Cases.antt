@@ -3,7 +3,7 @@ use Rattle.std.specs.Prelude.{ℕ, ◌≡◌, Bool, true, false, ◌&&◌, List,
 use Rattle.std.specs.Bool.{beq}
 use Rattle.lock.specs.declared.Row.{Row}
 use Rattle.lock.specs.declared.LockState.{LockState}
-use Rattle.lock.specs.declared.Answer.{Answer}
+use Rattle.lock.specs.Event.{Answer}
 use Rattle.choice.specs.Every.{every}
 use Rattle.lock.specs.State.{processors, none, guarded, RP, Preempted, row}
 use Rattle.lock.specs.Event.{fresh, happens}

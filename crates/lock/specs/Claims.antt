@@ -4,7 +4,7 @@
 -- inside by its own entry only; a set guard has its releaser; what a caller of the library holds is such a run. What is counted stands in Count, join, entry and interrupt in Run.
 use Rattle.std.specs.Prelude.{ℕ, suc, ◌-◌, ◌≤◌, ◌<◌, ◌≡◌, true, ◌||◌, ◌≢◌, List, [], ◌∷◌, ◌++◌, length}
 use Rattle.lock.specs.declared.LockState.{LockState}
-use Rattle.lock.specs.declared.Answer.{Answer}
+use Rattle.lock.specs.Event.{Answer}
 use Rattle.lock.specs.State.{processors, is_plain, is_drawn, is_guarded, is_old, fresh_state, row}
 use Rattle.lock.specs.Event.{fresh, happens}
 use Rattle.lock.specs.Run.{Call, run, joins, enters, is_inside}

@@ -1,16 +1,27 @@
 -- Document 01, "Two events" and "What is turned away": making the fresh state, and an event on a state, with their refusals.
-use Rattle.std.specs.Prelude.{ℕ, Bool, true, not, ◌||◌, cond, eqb, ltb, leb}
+use Rattle.std.specs.Prelude.{ℕ, Bool, true, not, ◌||◌, cond, eqb, ltb, leb, Result, Ok, Err}
 use Rattle.lock.specs.declared.LockState.{LockState}
-use Rattle.lock.specs.declared.Answer.{Answer}
+use Rattle.lock.specs.declared.Refused.{Refused}
 use Rattle.lock.specs.State.{editions, processors, fresh_state, put_flag}
 use Rattle.lock.specs.Sound.{sound}
 use Rattle.lock.specs.Table.{stepped}
+use Rattle.lock.specs.Named.{refusal_number}
+
+-- What making the fresh state or an event answers, in document 01's terms: "the refusal number and the next state"; 0 for accepted.
+pub record Answer : Type 0 where
+  pub refusal : ℕ
+  pub state : LockState
 
 abbrev pub accepted : LockState → Answer
 accepted s = record { refusal = 0; state = s }
 
 abbrev pub refused : ℕ → LockState → Answer
 refused number s = record { refusal = number; state = s }
+
+-- "a definition gives this paper's number and values for each of its cases": what the code's answer says
+abbrev pub told : Result LockState Refused → Answer
+told (Ok s) = accepted s
+told (Err r) = refused (refusal_number r.refusal) r.state
 
 -- "as a filler only, the fresh state of edition 0 and N 1"
 abbrev pub filler : LockState

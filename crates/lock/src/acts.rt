@@ -3,7 +3,7 @@
 ghost use Rattle.std.specs.Prelude.{◌≡◌};
 ghost use Rattle.lock.specs.Acts as Acts;
 
-use crate::LockState;
+use crate::{Edition, LockState, Locked};
 
 impl LockState {
     // The guarded edition stops at the gate, so that a processor somebody still fences does not join anew.
@@ -11,7 +11,7 @@ impl LockState {
     fn to_queue(self, p: u8) -> LockState
         ensures { result ≡ Acts.to_queue self p }
     {
-        let guarded = self.edition == LockState::GUARDED;
+        let guarded = self.is(Edition::Guarded);
         if guarded {
             self.to(p, 1)
         } else {
@@ -44,7 +44,7 @@ impl LockState {
     fn to_lift(self, p: u8) -> LockState
         ensures { result ≡ Acts.to_lift self p }
     {
-        let drawn = self.edition == LockState::DRAWN;
+        let drawn = self.is(Edition::Drawn);
         if drawn {
             self.onward(p)
         } else {
@@ -61,7 +61,7 @@ impl LockState {
         if own.flag {
             return self.put_flag(p, false);
         }
-        let old = self.edition == LockState::OLD;
+        let old = self.is(Edition::Old);
         if old {
             self.to(p, 23)
         } else {
@@ -104,7 +104,7 @@ impl LockState {
     pub(crate) fn arm(self, p: u8) -> LockState
         ensures { result ≡ Acts.arm self p }
     {
-        self.put_locked(p, LockState::LOCKED).to(p, 5)
+        self.put_locked(p, Locked::Locked).to(p, 5)
     }
 
     #[tactic(auto, unfolding(crate::specs::Acts::link))]
@@ -113,7 +113,7 @@ impl LockState {
     {
         let own = self.row(p);
         let linked = self.put_next(own.pred, p);
-        let plain = self.edition == LockState::PLAIN;
+        let plain = self.is(Edition::Plain);
         if plain {
             linked.to(p, 7)
         } else {
@@ -128,9 +128,9 @@ impl LockState {
     {
         let own = self.row(p);
         let pred = self.row(own.pred);
-        let parked = pred.locked == LockState::RP;
+        let parked = pred.holds(Locked::Rp);
         if parked {
-            self.put_locked(own.pred, LockState::RELEASED).to(p, 8)
+            self.put_locked(own.pred, Locked::Released).to(p, 8)
         } else {
             self.to(p, 7) // a releaser will come
         }
@@ -141,11 +141,11 @@ impl LockState {
         ensures { result ≡ Acts.spin self p }
     {
         let own = self.row(p);
-        let released = own.locked == LockState::RELEASED;
+        let released = own.holds(Locked::Released);
         if released {
             return self.to(p, 9);
         }
-        let plain = self.edition == LockState::PLAIN;
+        let plain = self.is(Edition::Plain);
         if plain { self } else { self.to(p, 10) }
     }
 
@@ -153,14 +153,14 @@ impl LockState {
     pub(crate) fn settle(self, p: u8) -> LockState
         ensures { result ≡ Acts.settle self p }
     {
-        self.put_locked(p, LockState::RELEASED).to(p, 9)
+        self.put_locked(p, Locked::Released).to(p, 9)
     }
 
     #[tactic(auto, unfolding(crate::specs::Acts::inside))]
     pub(crate) fn inside(self, p: u8) -> LockState
         ensures { result ≡ Acts.inside self p }
     {
-        let old = self.edition == LockState::OLD;
+        let old = self.is(Edition::Old);
         if old { self.to(p, 26) } else { self.to(p, 14) }
     }
 
@@ -170,9 +170,9 @@ impl LockState {
         ensures { result ≡ Acts.poll self p }
     {
         let own = self.row(p);
-        let leaves = own.flag & (own.locked == LockState::LOCKED);
+        let leaves = own.flag & (own.holds(Locked::Locked));
         if leaves {
-            self.put_locked(p, LockState::PREEMPTED)
+            self.put_locked(p, Locked::Preempted)
                 .put_flag(p, false)
                 .to(p, 11)
         } else {
@@ -192,9 +192,9 @@ impl LockState {
         ensures { result ≡ Acts.back self p }
     {
         let own = self.row(p);
-        let waited_for = own.locked == LockState::PREEMPTED;
+        let waited_for = own.holds(Locked::Preempted);
         if waited_for {
-            self.put_locked(p, LockState::LOCKED).to(p, 7)
+            self.put_locked(p, Locked::Locked).to(p, 7)
         } else {
             self.to(p, 13)
         }
@@ -206,9 +206,9 @@ impl LockState {
         ensures { result ≡ Acts.regain self p }
     {
         let own = self.row(p);
-        let parked = own.locked == LockState::RP;
+        let parked = own.holds(Locked::Rp);
         if parked {
-            self.put_locked(p, LockState::RELEASED).to(p, 7)
+            self.put_locked(p, Locked::Released).to(p, 7)
         } else {
             self.to_queue(p)
         }
@@ -254,15 +254,15 @@ impl LockState {
     {
         let own = self.row(p);
         let succ = self.row(own.succ);
-        let plain = self.edition == LockState::PLAIN;
+        let plain = self.is(Edition::Plain);
         if plain {
-            return self.put_locked(own.succ, LockState::RELEASED).to(p, 0);
+            return self.put_locked(own.succ, Locked::Released).to(p, 0);
         }
-        let waits = succ.locked == LockState::LOCKED;
+        let waits = succ.holds(Locked::Locked);
         if waits {
-            return self.put_locked(own.succ, LockState::RELEASED).to(p, 0);
+            return self.put_locked(own.succ, Locked::Released).to(p, 0);
         }
-        let drawn = self.edition == LockState::DRAWN;
+        let drawn = self.is(Edition::Drawn);
         if drawn {
             self.to(p, 19)
         } else {
@@ -285,9 +285,9 @@ impl LockState {
     {
         let own = self.row(p);
         let succ = self.row(own.succ);
-        let away = succ.locked == LockState::PREEMPTED;
+        let away = succ.holds(Locked::Preempted);
         if away {
-            self.put_locked(own.succ, LockState::RP).to(p, 20)
+            self.put_locked(own.succ, Locked::Rp).to(p, 20)
         } else {
             self.put_nx(p, own.succ).to_lift(p)
         }
@@ -314,10 +314,10 @@ impl LockState {
     {
         let own = self.row(p);
         let succ = self.row(own.succ);
-        let parked = succ.locked == LockState::RP;
+        let parked = succ.holds(Locked::Rp);
         if parked {
-            let took = self.put_locked(own.succ, LockState::RELEASED);
-            let drawn = self.edition == LockState::DRAWN;
+            let took = self.put_locked(own.succ, Locked::Released);
+            let drawn = self.is(Edition::Drawn);
             if drawn {
                 took.to(p, 27)
             } else {

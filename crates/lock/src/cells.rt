@@ -1,9 +1,10 @@
 // Reading and replacing one row or one cell of a state. A row that is not there reads as fresh and is not replaced, so that
 // no act has to know that its neighbour's number is in range.
 ghost use Rattle.std.specs.Prelude.{◌≡◌};
+ghost use Rattle.lock.specs.Named.{locked_number};
 ghost use Rattle.lock.specs.State.{row, put_row, put_tail, put_next, put_locked, put_guard, put_flag, to, put_pred, put_succ, put_nx};
 
-use crate::{LockState, Row};
+use crate::{LockState, Locked, Row};
 
 impl LockState {
     pub fn row(self, p: u8) -> Row
@@ -29,72 +30,102 @@ impl LockState {
     pub fn put_tail(self, q: u8) -> LockState
         ensures { result ≡ put_tail self q }
     {
-        let mut s = self;
-        s.tail = q;
-        s
+        LockState { tail: q, ..self }
     }
 
     pub(crate) fn put_next(self, p: u8, v: u8) -> LockState
         ensures { result ≡ put_next self p v }
     {
-        let mut r = self.row(p);
-        r.next = v;
-        self.put_row(p, r)
+        self.put_row(
+            p,
+            Row {
+                next: v,
+                ..self.row(p)
+            },
+        )
     }
 
-    pub(crate) fn put_locked(self, p: u8, v: u8) -> LockState
-        ensures { result ≡ put_locked self p v }
+    pub(crate) fn put_locked(self, p: u8, v: Locked) -> LockState
+        ensures { result ≡ put_locked self p (locked_number v) }
     {
-        let mut r = self.row(p);
-        r.locked = v;
-        self.put_row(p, r)
+        self.put_row(
+            p,
+            Row {
+                locked: u8::from(v),
+                ..self.row(p)
+            },
+        )
     }
 
     pub(crate) fn put_guard(self, p: u8, v: bool) -> LockState
         ensures { result ≡ put_guard self p v }
     {
-        let mut r = self.row(p);
-        r.guard = v;
-        self.put_row(p, r)
+        self.put_row(
+            p,
+            Row {
+                guard: v,
+                ..self.row(p)
+            },
+        )
     }
 
     pub(crate) fn put_flag(self, p: u8, v: bool) -> LockState
         ensures { result ≡ put_flag self p v }
     {
-        let mut r = self.row(p);
-        r.flag = v;
-        self.put_row(p, r)
+        self.put_row(
+            p,
+            Row {
+                flag: v,
+                ..self.row(p)
+            },
+        )
     }
 
     pub(crate) fn to(self, p: u8, v: u8) -> LockState
         ensures { result ≡ to self p v }
     {
-        let mut r = self.row(p);
-        r.place = v;
-        self.put_row(p, r)
+        self.put_row(
+            p,
+            Row {
+                place: v,
+                ..self.row(p)
+            },
+        )
     }
 
     pub(crate) fn put_pred(self, p: u8, v: u8) -> LockState
         ensures { result ≡ put_pred self p v }
     {
-        let mut r = self.row(p);
-        r.pred = v;
-        self.put_row(p, r)
+        self.put_row(
+            p,
+            Row {
+                pred: v,
+                ..self.row(p)
+            },
+        )
     }
 
     pub(crate) fn put_succ(self, p: u8, v: u8) -> LockState
         ensures { result ≡ put_succ self p v }
     {
-        let mut r = self.row(p);
-        r.succ = v;
-        self.put_row(p, r)
+        self.put_row(
+            p,
+            Row {
+                succ: v,
+                ..self.row(p)
+            },
+        )
     }
 
     pub(crate) fn put_nx(self, p: u8, v: u8) -> LockState
         ensures { result ≡ put_nx self p v }
     {
-        let mut r = self.row(p);
-        r.nx = v;
-        self.put_row(p, r)
+        self.put_row(
+            p,
+            Row {
+                nx: v,
+                ..self.row(p)
+            },
+        )
     }
 }

@@ -1,15 +1,16 @@
 // The state of one lock and up to sixteen processors, its soundness, the step table and the events. Here are the types and the
 // limits; each module is one part of document 01: `cells` a state's cells, `sound` soundness, `places` which places an edition
-// has, `acts` and `table` the step table, `event` the events. `claims`, `kept` and `laws` promise what is proved of them.
+// has, `acts` and `table` the step table, `events` the events. `claims`, `kept` and `laws` promise what is proved of them.
 #![tactic(auto)]
 
-ghost use Rattle.std.specs.Prelude.{◌≡◌};
+ghost use Rattle.std.specs.Prelude.{◌≡◌, eqb};
 ghost use Rattle.lock.specs.State.{fresh_row};
+ghost use Rattle.lock.specs.Named.{edition_number, event_number, locked_number, refusal_number, NamesEdition, NamesEvent};
 
 mod acts;
 mod cells;
 pub mod claims;
-mod event;
+mod events;
 pub mod kept;
 pub mod laws;
 mod places;
@@ -22,7 +23,7 @@ const ROWS: usize = LockState::PROCESSORS as usize;
 
 // What belongs to one processor: its queue node (next, locked, guard), its request flag, its place in the step table, and the
 // private cells that the acts use.
-#[derive(Clone, Copy)]
+#[derive(Clone, Copy, Debug, PartialEq, Eq)]
 pub struct Row {
     pub next: u8,
     pub locked: u8,
@@ -35,7 +36,7 @@ pub struct Row {
 }
 
 // One value that holds its sixteen rows; `n` is the number of processors, `tail` document 01's L.
-#[derive(Clone, Copy)]
+#[derive(Clone, Copy, Debug, PartialEq, Eq)]
 pub struct LockState {
     pub edition: u8,
     pub n: u8,
@@ -43,20 +44,124 @@ pub struct LockState {
     pub rows: [Row; ROWS],
 }
 
-// What making the fresh state or an event answers: the refusal's number, 0 for accepted, and the state.
-#[derive(Clone, Copy)]
-pub struct Answer {
-    pub refusal: u8,
+// The editions, with document 01's and request [1]'s numbers.
+#[derive(Clone, Copy, Debug, PartialEq, Eq)]
+pub enum Edition {
+    Plain = 0,
+    Drawn = 1,
+    Guarded = 2,
+    Old = 3,
+}
+
+// The events.
+#[derive(Clone, Copy, Debug, PartialEq, Eq)]
+pub enum Event {
+    Step = 1,
+    Raise = 2,
+}
+
+// What a locked cell may hold; Rp is R_P, released while preempted.
+#[derive(Clone, Copy, Debug, PartialEq, Eq)]
+pub enum Locked {
+    Released = 0,
+    Locked = 1,
+    Preempted = 2,
+    Rp = 3,
+}
+
+// Why making the fresh state (6 and 7) or an event (8, 9 and 11) is refused.
+#[derive(Clone, Copy, Debug, PartialEq, Eq)]
+pub enum Refusal {
+    UnknownEdition = 6,
+    ProcessorCount = 7,
+    UnknownEvent = 8,
+    NoSuchProcessor = 9,
+    Unsound = 11,
+}
+
+// A refusal, with the same state back; beside a fresh state's stands the filler.
+#[derive(Clone, Copy, Debug, PartialEq, Eq)]
+pub struct Refused {
+    pub refusal: Refusal,
     pub state: LockState,
 }
 
+impl From<Edition> for u8 {
+    ghost from_gives = { λ edition number. number ≡ edition_number edition };
+
+    fn from(edition: Edition) -> u8 {
+        edition as u8
+    }
+}
+
+impl From<Event> for u8 {
+    ghost from_gives = { λ event number. number ≡ event_number event };
+
+    fn from(event: Event) -> u8 {
+        event as u8
+    }
+}
+
+impl From<Locked> for u8 {
+    ghost from_gives = { λ locked number. number ≡ locked_number locked };
+
+    fn from(locked: Locked) -> u8 {
+        locked as u8
+    }
+}
+
+impl From<Refusal> for u8 {
+    ghost from_gives = { λ refusal number. number ≡ refusal_number refusal };
+
+    fn from(refusal: Refusal) -> u8 {
+        refusal as u8
+    }
+}
+
+impl TryFrom<u8> for Edition {
+    type Error = Refusal;
+
+    ghost try_from_gives = { NamesEdition };
+
+    fn try_from(number: u8) -> Result<Edition, Refusal> {
+        match number {
+            0 => Ok(Edition::Plain),
+            1 => Ok(Edition::Drawn),
+            2 => Ok(Edition::Guarded),
+            3 => Ok(Edition::Old),
+            _ => Err(Refusal::UnknownEdition),
+        }
+    }
+}
+
+impl TryFrom<u8> for Event {
+    type Error = Refusal;
+
+    ghost try_from_gives = { NamesEvent };
+
+    fn try_from(number: u8) -> Result<Event, Refusal> {
+        match number {
+            1 => Ok(Event::Step),
+            2 => Ok(Event::Raise),
+            _ => Err(Refusal::UnknownEvent),
+        }
+    }
+}
+
 impl Row {
+    // What stands in the locked cell.
+    pub(crate) fn holds(self, what: Locked) -> bool
+        ensures { result ≡ eqb self.locked (locked_number what) }
+    {
+        self.locked == u8::from(what)
+    }
+
     pub(crate) fn fresh() -> Row
         ensures { result ≡ fresh_row }
     {
         Row {
             next: LockState::NONE,
-            locked: LockState::RELEASED,
+            locked: u8::from(Locked::Released),
             guard: false,
             flag: false,
             place: 0,
@@ -68,6 +173,13 @@ impl Row {
 }
 
 impl LockState {
+    // Whether it is of that edition.
+    pub(crate) fn is(self, edition: Edition) -> bool
+        ensures { result ≡ eqb self.edition (edition_number edition) }
+    {
+        self.edition == u8::from(edition)
+    }
+
     // The limits.
     pub const PROCESSORS: u8 = 16;
 
@@ -75,28 +187,6 @@ impl LockState {
 
     pub const NONE: u8 = 255;
 
-    // The editions, and how many there are.
+    // How many editions there are.
     pub const EDITIONS: u8 = 4;
-
-    pub const PLAIN: u8 = 0;
-
-    pub const DRAWN: u8 = 1;
-
-    pub const GUARDED: u8 = 2;
-
-    pub const OLD: u8 = 3;
-
-    // The events.
-    pub const STEP: u8 = 1;
-
-    pub const RAISE: u8 = 2;
-
-    // What a locked cell may hold; RP is R_P, released while preempted.
-    pub const RELEASED: u8 = 0;
-
-    pub const LOCKED: u8 = 1;
-
-    pub const PREEMPTED: u8 = 2;
-
-    pub const RP: u8 = 3;
 }

@@ -4,7 +4,7 @@ ghost use Rattle.std.specs.Prelude.{◌≡◌, ◌||◌};
 ghost use Rattle.lock.specs.Sound.{is_in, has_place};
 ghost use Rattle.lock.specs.Places.{every_queue_lock_has, interrupts_add, guard_adds, second_read_adds, old_lock_has};
 
-use crate::LockState;
+use crate::{Edition, LockState};
 
 // What every queue lock has. The plain lock has no more.
 fn every_queue_lock_has(place: u8) -> bool
@@ -113,12 +113,12 @@ pub(crate) fn has_place(edition: u8, place: u8) -> bool
     if LockState::PLACES <= place {
         return false;
     }
-    match edition {
-        LockState::PLAIN => every_queue_lock_has(place),
-        LockState::DRAWN => lock_with_interrupts_has(place) || second_read_adds(place),
-        LockState::GUARDED => lock_with_interrupts_has(place) || guard_adds(place),
-        LockState::OLD => old_lock_has(place),
-        _ => false,
+    match Edition::try_from(edition) {
+        Ok(Edition::Plain) => every_queue_lock_has(place),
+        Ok(Edition::Drawn) => lock_with_interrupts_has(place) || second_read_adds(place),
+        Ok(Edition::Guarded) => lock_with_interrupts_has(place) || guard_adds(place),
+        Ok(Edition::Old) => old_lock_has(place),
+        Err(_) => false,
     }
 }
 

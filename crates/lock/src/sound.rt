@@ -4,7 +4,7 @@ ghost use Rattle.lock.specs.Sound as Sound;
 ghost use Rattle.choice.specs.Every.{every};
 ghost use Rattle.lock.specs.State.{processors};
 
-use crate::{LockState, Row, places};
+use crate::{LockState, Locked, Row, places};
 
 fn none_or_below(n: u8, q: u8) -> bool
     ensures { result ≡ Sound.none_or_below n q }
@@ -25,7 +25,7 @@ fn cells_sound(n: u8, r: Row) -> bool
         & none_or_below(n, r.pred)
         & none_or_below(n, r.succ)
         & none_or_below(n, r.nx)
-        & (r.locked <= LockState::RP)
+        & (r.locked <= u8::from(Locked::Rp))
 }
 
 fn place_sound(edition: u8, r: Row) -> bool
@@ -41,14 +41,7 @@ fn place_sound(edition: u8, r: Row) -> bool
 fn as_fresh(r: Row) -> bool
     ensures { result ≡ Sound.as_fresh r }
 {
-    (r.next == LockState::NONE)
-        & (r.locked == LockState::RELEASED)
-        & !r.guard
-        & !r.flag
-        & (r.place == 0)
-        & (r.pred == LockState::NONE)
-        & (r.succ == LockState::NONE)
-        & (r.nx == LockState::NONE)
+    r == Row::fresh()
 }
 
 // Row number i of a state of that edition and N.
@@ -69,11 +62,8 @@ impl LockState {
     {
         let rows = self.rows;
         let mut ok = true;
-        let mut i: u8 = 0;
-        while i < LockState::PROCESSORS {
-            let r = rows[i as usize];
-            ok = ok & sound_row(self.edition, self.n, i, r);
-            i += 1;
+        for i in 0..LockState::PROCESSORS {
+            ok &= sound_row(self.edition, self.n, i, rows[i as usize]);
         }
         ok
     }

@@ -4,12 +4,12 @@
 ghost use Rattle.std.specs.Prelude.{◌≡◌};
 ghost use Rattle.lock.specs.State.{row, put_row, put_tail};
 ghost use Rattle.lock.specs.Sound.{sound};
-ghost use Rattle.lock.specs.Event.{fresh, happens, carried};
+ghost use Rattle.lock.specs.Event.{told, fresh, happens, carried};
 
-use crate::{Answer, LockState, Row};
+use crate::{LockState, Refused, Row};
 
-fn told_fresh(edition: u8, n: u8) -> Answer
-    ensures { result ≡ fresh edition n }
+fn told_fresh(edition: u8, n: u8) -> Result<LockState, Refused>
+    ensures { told result ≡ fresh edition n }
 {
     LockState::fresh(edition, n)
 }
@@ -38,26 +38,26 @@ fn told_is_sound(s: LockState) -> bool
     s.is_sound()
 }
 
-fn told_carried(s: LockState, event: u8, p: u8) -> Answer
-    ensures { result ≡ carried s event p }
+fn told_carried(s: LockState, event: u8, p: u8) -> Result<LockState, Refused>
+    ensures { told result ≡ carried s event p }
 {
     s.carried(event, p)
 }
 
-fn told_event(s: LockState, event: u8, p: u8) -> Answer
-    ensures { result ≡ happens s event p }
+fn told_event(s: LockState, event: u8, p: u8) -> Result<LockState, Refused>
+    ensures { told result ≡ happens s event p }
 {
     s.event(event, p)
 }
 
-fn told_step(s: LockState, p: u8) -> Answer
-    ensures { result ≡ happens s 1 p }
+fn told_step(s: LockState, p: u8) -> Result<LockState, Refused>
+    ensures { told result ≡ happens s 1 p }
 {
     s.step(p)
 }
 
-fn told_raise(s: LockState, p: u8) -> Answer
-    ensures { result ≡ happens s 2 p }
+fn told_raise(s: LockState, p: u8) -> Result<LockState, Refused>
+    ensures { told result ≡ happens s 2 p }
 {
     s.raise(p)
 }

@@ -18,7 +18,7 @@ use lib.Dec.{eqb, leb}
 use borrow.Author.Tests.{leb-false}
 use Rattle.choice.proofs.Tests.{cases, clash}
 use Rattle.lock.specs.declared.LockState.{LockState}
-use Rattle.lock.specs.declared.Answer.{Answer}
+use Rattle.lock.specs.Event.{Answer}
 use Rattle.lock.specs.State.{processors, row}
 use Rattle.lock.specs.Sound.{sound}
 use Rattle.lock.specs.Event.{refused, is_step, is_raise, happens}

@@ -15,7 +15,7 @@ use lib.ListN.{length, drop, length-drop}
 use lib.Dec.{eqb}
 use borrow.Author.Tests.{eqb-true, eq-eqb, lt-ltb, le-ltb}
 use Rattle.choice.proofs.Tests.{clash}
-use Rattle.lock.specs.declared.Answer.{Answer}
+use Rattle.lock.specs.Event.{Answer}
 use Rattle.lock.specs.State.{fresh_state}
 use Rattle.lock.specs.Event.{fresh}
 use Rattle.lock.specs.Run.{Call, run}

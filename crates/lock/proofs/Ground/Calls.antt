@@ -8,7 +8,7 @@ use mathlib.Core.Bool.{Bool, true, false, cond, not, ◌&&◌, ◌||◌}
 use lib.Dec.{eqb, leb}
 use borrow.Author.Tests.{leb-false}
 use Rattle.lock.specs.declared.LockState.{LockState}
-use Rattle.lock.specs.declared.Answer.{Answer}
+use Rattle.lock.specs.Event.{Answer}
 use Rattle.lock.specs.Sound.{sound}
 use Rattle.lock.specs.Table.{stepped}
 use Rattle.lock.specs.Event.{accepted, refused, is_step, is_raise, raised, happens}

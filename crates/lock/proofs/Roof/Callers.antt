@@ -10,7 +10,7 @@ use lib.Dec.{eqb, ltb, leb}
 use borrow.Author.Tests.{ltb-false, leb-false, eqb-false, ne_eqb, le-leb}
 use Rattle.choice.proofs.Tests.{clash}
 use Rattle.lock.specs.declared.LockState.{LockState}
-use Rattle.lock.specs.declared.Answer.{Answer}
+use Rattle.lock.specs.Event.{Answer}
 use Rattle.lock.specs.State.{processors, editions, is_plain, is_drawn, is_guarded, is_old, fresh_state}
 use Rattle.lock.specs.Event.{accepted, refused, filler, fresh}
 use Rattle.lock.specs.Run.{after, run}

@@ -1,7 +1,7 @@
 -- `bench::turns::follow` meets its contract: each line is a turn of the log, and with the last line the log is whole.
 use Rattle.std.proofs.Common.{◌≡◌, ℕ, false, ◌≢◌, List, sym, eq-eqb, ne_eqb}
 use Rattle.lock.specs.declared.LockState.{LockState}
-use Rattle.lock.specs.declared.Answer.{Answer}
+use Rattle.lock.specs.Event.{Answer}
 use Rattle.lock.specs.Event.{carried}
 use Rattle.lock.specs.Kept.{Whole}
 use Rattle.frame.specs.Reading.{reads}

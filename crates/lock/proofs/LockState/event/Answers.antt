@@ -4,7 +4,7 @@ use Rattle.lock.proofs.LockState.event.Goals as goal
 
 pub returns-then-not-sound : goal.returns-then-not-sound
 unfolding happens
-returns-then-not-sound c = simp (← c.is_sound-sound.ensures, c.if-not-sound.true) c.refused.ensures
+returns-then-not-sound c = simp (← c.is_sound-sound.ensures, c.if-not-sound.true, c.refused.ensures)
 
 pub returns : goal.returns
 unfolding happens

@@ -6,4 +6,4 @@ pub returns : goal.returns
 unfolding cells_sound
 returns c =
     simp
-    (c.none_or_below.ensures, c.none_or_below-2.ensures, c.none_or_below-3.ensures, c.none_or_below-4.ensures)
+    (c.none_or_below.ensures, c.none_or_below-2.ensures, c.none_or_below-3.ensures, c.none_or_below-4.ensures, c.from.ensures)

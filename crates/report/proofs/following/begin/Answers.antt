@@ -1,7 +1,7 @@
 -- `report::following::begin` meets its contract: by what the lock answers to line 1's numbers.
 use Rattle.std.proofs.Common.{sym, ap, ◌∙◌, eq-eqb, ne_eqb}
 use Rattle.lock.specs.declared.LockState.{LockState}
-use Rattle.lock.specs.declared.Answer.{Answer}
+use Rattle.lock.specs.Event.{Answer}
 use Rattle.lock.proofs.Keeping.{fresh_kept}
 use Rattle.bench.specs.Bridge.{first_state}
 use Rattle.report.specs.Followed.{followed_of}

@@ -1,0 +1,93 @@
+// Making the fresh state, and an event on a state, with their refusals.
+ghost use Rattle.std.specs.Prelude.{◌≡◌};
+ghost use Rattle.lock.specs.State.{fresh_state};
+ghost use Rattle.lock.specs.Event.{told, fresh, happens, carried, raised};
+
+use crate::{Edition, Event, LockState, ROWS, Refusal, Refused, Row};
+
+impl LockState {
+    fn fresh_state(edition: u8, n: u8) -> LockState
+        ensures { result ≡ fresh_state edition n }
+    {
+        LockState {
+            edition,
+            n,
+            tail: LockState::NONE,
+            rows: [Row::fresh(); ROWS],
+        }
+    }
+
+    // The fresh state, or refusal 6 or 7 with the filler beside it.
+    pub fn fresh(edition: u8, n: u8) -> Result<LockState, Refused>
+        ensures { told result ≡ fresh edition n }
+    {
+        let filler = LockState::fresh_state(u8::from(Edition::Plain), 1);
+        let unknown = LockState::EDITIONS <= edition;
+        if unknown {
+            return Err(filler.refused(Refusal::UnknownEdition));
+        }
+        let outside = (n == 0) | (LockState::PROCESSORS < n);
+        if outside {
+            return Err(filler.refused(Refusal::ProcessorCount));
+        }
+        Ok(LockState::fresh_state(edition, n))
+    }
+
+    // The same state back.
+    fn refused(self, refusal: Refusal) -> Refused
+        ensures { result ≡ record { refusal = refusal; state = self } }
+    {
+        Refused {
+            refusal,
+            state: self,
+        }
+    }
+
+    #[tactic(auto, unfolding(crate::specs::Event::raised))]
+    fn raised(self, p: u8) -> LockState
+        ensures { result ≡ raised self p }
+    {
+        self.put_flag(p, true)
+    }
+
+    // One event on a state of which the soundness is not asked: the next state, or refusal 8 or 9 with the same state. For a
+    // caller that has kept the state sound since it was fresh.
+    pub fn carried(self, event: u8, p: u8) -> Result<LockState, Refused>
+        ensures { told result ≡ carried self event p }
+    {
+        let event = Event::try_from(event).map_err(|refusal| self.refused(refusal))?;
+        let outside = self.n <= p;
+        if outside {
+            return Err(self.refused(Refusal::NoSuchProcessor));
+        }
+        match event {
+            Event::Step => Ok(self.stepped(p)),
+            Event::Raise => Ok(self.raised(p)),
+        }
+    }
+
+    // One event on a state: the next state, or refusal 11, 8 or 9 with the same state.
+    pub fn event(self, event: u8, p: u8) -> Result<LockState, Refused>
+        ensures { told result ≡ happens self event p }
+    {
+        let sound = self.is_sound();
+        if !sound {
+            return Err(self.refused(Refusal::Unsound));
+        }
+        self.carried(event, p)
+    }
+
+    // Event 1.
+    pub fn step(self, p: u8) -> Result<LockState, Refused>
+        ensures { told result ≡ happens self 1 p }
+    {
+        self.event(u8::from(Event::Step), p)
+    }
+
+    // Event 2.
+    pub fn raise(self, p: u8) -> Result<LockState, Refused>
+        ensures { told result ≡ happens self 2 p }
+    {
+        self.event(u8::from(Event::Raise), p)
+    }
+}
