@@ -9,6 +9,9 @@ use Rattle.lock.specs.declared.Event.{Event}
 use Rattle.lock.specs.declared.Event.TheVariants.{Step, Raise}
 use Rattle.lock.specs.declared.Locked.{Locked as LockedCell}
 use Rattle.lock.specs.declared.Locked.TheVariants.{Released, Locked, Preempted, Rp}
+use Rattle.lock.specs.declared.places.Place.{Place}
+use Rattle.lock.specs.declared.places.Place.TheVariants.{Rest, Gate, Clear, Swap, Arm, Link, Claim, Spin, Settle, Inside, Poll, Service, Back, Regain, Look, Close, Await, Hand, Fence, Park, Peek, Take, Lift, OldTry, OldPoll, OldService, OldFree, Reread, Lost}
+use Rattle.lock.specs.declared.places.NoPlace.{NoPlace}
 use Rattle.lock.specs.declared.Refusal.{Refusal}
 use Rattle.lock.specs.declared.Refusal.TheVariants.{UnknownEdition, ProcessorCount, UnknownEvent, NoSuchProcessor, Unsound}
 
@@ -31,6 +34,38 @@ locked_number Locked = 1
 locked_number Preempted = 2
 locked_number Rp = 3
 
+-- the step table, and requests [1] and [2]
+abbrev pub place_number : Place → ℕ
+place_number Rest = 0
+place_number Gate = 1
+place_number Clear = 2
+place_number Swap = 3
+place_number Arm = 4
+place_number Link = 5
+place_number Claim = 6
+place_number Spin = 7
+place_number Settle = 8
+place_number Inside = 9
+place_number Poll = 10
+place_number Service = 11
+place_number Back = 12
+place_number Regain = 13
+place_number Look = 14
+place_number Close = 15
+place_number Await = 16
+place_number Hand = 17
+place_number Fence = 18
+place_number Park = 19
+place_number Peek = 20
+place_number Take = 21
+place_number Lift = 22
+place_number OldTry = 23
+place_number OldPoll = 24
+place_number OldService = 25
+place_number OldFree = 26
+place_number Reread = 27
+place_number Lost = 28
+
 -- "What is turned away": 6 to 9, and 11
 abbrev pub refusal_number : Refusal → ℕ
 refusal_number UnknownEdition = 6
@@ -48,3 +83,8 @@ NamesEdition k (Err r) = (r ≡ UnknownEdition) × (4 ≤ k)
 abbrev pub NamesEvent : ℕ → Result Event Refusal → Type 0
 NamesEvent k (Ok e) = k ≡ event_number e
 NamesEvent k (Err r) = (r ≡ UnknownEvent) × (k ≢ 1) × (k ≢ 2)
+
+-- a number as a place: none where there is none of that number
+abbrev pub NamesPlace : ℕ → Result Place NoPlace → Type 0
+NamesPlace k (Ok place) = k ≡ place_number place
+NamesPlace k (Err _) = 29 ≤ k

@@ -3,7 +3,7 @@
 ghost use Rattle.std.specs.Prelude.{◌≡◌};
 ghost use Rattle.lock.specs.Acts as Acts;
 
-use crate::{Edition, LockState, Locked};
+use crate::{Edition, LockState, Locked, Place};
 
 impl LockState {
     // The guarded edition stops at the gate, so that a processor somebody still fences does not join anew.
@@ -13,9 +13,9 @@ impl LockState {
     {
         let guarded = self.is(Edition::Guarded);
         if guarded {
-            self.to(p, 1)
+            self.to(p, Place::Gate)
         } else {
-            self.to(p, 2)
+            self.to(p, Place::Clear)
         }
     }
 
@@ -24,7 +24,7 @@ impl LockState {
         ensures { result ≡ Acts.to_hand self p }
     {
         let own = self.row(p);
-        self.put_succ(p, own.next).to(p, 17)
+        self.put_succ(p, own.next).to(p, Place::Hand)
     }
 
     #[tactic(auto, unfolding(crate::specs::Acts::onward))]
@@ -34,9 +34,9 @@ impl LockState {
         let own = self.row(p);
         let last = own.nx == LockState::NONE;
         if last {
-            self.to(p, 0)
+            self.to(p, Place::Rest)
         } else {
-            self.put_succ(p, own.nx).to(p, 17)
+            self.put_succ(p, own.nx).to(p, Place::Hand)
         }
     }
 
@@ -48,7 +48,7 @@ impl LockState {
         if drawn {
             self.onward(p)
         } else {
-            self.to(p, 22)
+            self.to(p, Place::Lift)
         }
     }
 
@@ -63,7 +63,7 @@ impl LockState {
         }
         let old = self.is(Edition::Old);
         if old {
-            self.to(p, 23)
+            self.to(p, Place::OldTry)
         } else {
             self.to_queue(p)
         }
@@ -75,14 +75,18 @@ impl LockState {
         ensures { result ≡ Acts.gate self p }
     {
         let own = self.row(p);
-        if own.guard { self } else { self.to(p, 2) }
+        if own.guard {
+            self
+        } else {
+            self.to(p, Place::Clear)
+        }
     }
 
     #[tactic(auto, unfolding(crate::specs::Acts::clear))]
     pub(crate) fn clear(self, p: u8) -> LockState
         ensures { result ≡ Acts.clear self p }
     {
-        self.put_next(p, LockState::NONE).to(p, 3)
+        self.put_next(p, LockState::NONE).to(p, Place::Swap)
     }
 
     // The join: from here on the order of the queue is settled.
@@ -94,9 +98,9 @@ impl LockState {
         let joined = self.put_pred(p, old).put_tail(p);
         let alone = old == LockState::NONE;
         if alone {
-            joined.to(p, 9)
+            joined.to(p, Place::Inside)
         } else {
-            joined.to(p, 4)
+            joined.to(p, Place::Arm)
         }
     }
 
@@ -104,7 +108,7 @@ impl LockState {
     pub(crate) fn arm(self, p: u8) -> LockState
         ensures { result ≡ Acts.arm self p }
     {
-        self.put_locked(p, Locked::Locked).to(p, 5)
+        self.put_locked(p, Locked::Locked).to(p, Place::Link)
     }
 
     #[tactic(auto, unfolding(crate::specs::Acts::link))]
@@ -115,9 +119,9 @@ impl LockState {
         let linked = self.put_next(own.pred, p);
         let plain = self.is(Edition::Plain);
         if plain {
-            linked.to(p, 7)
+            linked.to(p, Place::Spin)
         } else {
-            linked.to(p, 6)
+            linked.to(p, Place::Claim)
         }
     }
 
@@ -130,9 +134,10 @@ impl LockState {
         let pred = self.row(own.pred);
         let parked = pred.holds(Locked::Rp);
         if parked {
-            self.put_locked(own.pred, Locked::Released).to(p, 8)
+            self.put_locked(own.pred, Locked::Released)
+                .to(p, Place::Settle)
         } else {
-            self.to(p, 7) // a releaser will come
+            self.to(p, Place::Spin) // a releaser will come
         }
     }
 
@@ -143,17 +148,17 @@ impl LockState {
         let own = self.row(p);
         let released = own.holds(Locked::Released);
         if released {
-            return self.to(p, 9);
+            return self.to(p, Place::Inside);
         }
         let plain = self.is(Edition::Plain);
-        if plain { self } else { self.to(p, 10) }
+        if plain { self } else { self.to(p, Place::Poll) }
     }
 
     #[tactic(auto, unfolding(crate::specs::Acts::settle))]
     pub(crate) fn settle(self, p: u8) -> LockState
         ensures { result ≡ Acts.settle self p }
     {
-        self.put_locked(p, Locked::Released).to(p, 9)
+        self.put_locked(p, Locked::Released).to(p, Place::Inside)
     }
 
     #[tactic(auto, unfolding(crate::specs::Acts::inside))]
@@ -161,7 +166,11 @@ impl LockState {
         ensures { result ≡ Acts.inside self p }
     {
         let old = self.is(Edition::Old);
-        if old { self.to(p, 26) } else { self.to(p, 14) }
+        if old {
+            self.to(p, Place::OldFree)
+        } else {
+            self.to(p, Place::Look)
+        }
     }
 
     // Where the exchange fails the lock has just been handed over: the flag stays for the next rest.
@@ -174,9 +183,9 @@ impl LockState {
         if leaves {
             self.put_locked(p, Locked::Preempted)
                 .put_flag(p, false)
-                .to(p, 11)
+                .to(p, Place::Service)
         } else {
-            self.to(p, 7)
+            self.to(p, Place::Spin)
         }
     }
 
@@ -184,7 +193,7 @@ impl LockState {
     pub(crate) fn service(self, p: u8) -> LockState
         ensures { result ≡ Acts.service self p }
     {
-        self.to(p, 12)
+        self.to(p, Place::Back)
     }
 
     #[tactic(auto, unfolding(crate::specs::Acts::back))]
@@ -194,9 +203,9 @@ impl LockState {
         let own = self.row(p);
         let waited_for = own.holds(Locked::Preempted);
         if waited_for {
-            self.put_locked(p, Locked::Locked).to(p, 7)
+            self.put_locked(p, Locked::Locked).to(p, Place::Spin)
         } else {
-            self.to(p, 13)
+            self.to(p, Place::Regain)
         }
     }
 
@@ -208,7 +217,7 @@ impl LockState {
         let own = self.row(p);
         let parked = own.holds(Locked::Rp);
         if parked {
-            self.put_locked(p, Locked::Released).to(p, 7)
+            self.put_locked(p, Locked::Released).to(p, Place::Spin)
         } else {
             self.to_queue(p)
         }
@@ -221,7 +230,7 @@ impl LockState {
         let own = self.row(p);
         let unlinked = own.next == LockState::NONE;
         if unlinked {
-            self.to(p, 15)
+            self.to(p, Place::Close)
         } else {
             self.to_hand(p)
         }
@@ -233,9 +242,9 @@ impl LockState {
     {
         let last = self.tail == p;
         if last {
-            self.put_tail(LockState::NONE).to(p, 0)
+            self.put_tail(LockState::NONE).to(p, Place::Rest)
         } else {
-            self.to(p, 16)
+            self.to(p, Place::Await)
         }
     }
 
@@ -256,17 +265,21 @@ impl LockState {
         let succ = self.row(own.succ);
         let plain = self.is(Edition::Plain);
         if plain {
-            return self.put_locked(own.succ, Locked::Released).to(p, 0);
+            return self
+                .put_locked(own.succ, Locked::Released)
+                .to(p, Place::Rest);
         }
         let waits = succ.holds(Locked::Locked);
         if waits {
-            return self.put_locked(own.succ, Locked::Released).to(p, 0);
+            return self
+                .put_locked(own.succ, Locked::Released)
+                .to(p, Place::Rest);
         }
         let drawn = self.is(Edition::Drawn);
         if drawn {
-            self.to(p, 19)
+            self.to(p, Place::Park)
         } else {
-            self.to(p, 18)
+            self.to(p, Place::Fence)
         }
     }
 
@@ -276,7 +289,7 @@ impl LockState {
         ensures { result ≡ Acts.fence self p }
     {
         let own = self.row(p);
-        self.put_guard(own.succ, true).to(p, 19)
+        self.put_guard(own.succ, true).to(p, Place::Park)
     }
 
     #[tactic(auto, unfolding(crate::specs::Acts::park))]
@@ -287,7 +300,7 @@ impl LockState {
         let succ = self.row(own.succ);
         let away = succ.holds(Locked::Preempted);
         if away {
-            self.put_locked(own.succ, Locked::Rp).to(p, 20)
+            self.put_locked(own.succ, Locked::Rp).to(p, Place::Peek)
         } else {
             self.put_nx(p, own.succ).to_lift(p)
         }
@@ -304,7 +317,7 @@ impl LockState {
         if unlinked {
             peeked.to_lift(p)
         } else {
-            peeked.to(p, 21)
+            peeked.to(p, Place::Take)
         }
     }
 
@@ -319,9 +332,9 @@ impl LockState {
             let took = self.put_locked(own.succ, Locked::Released);
             let drawn = self.is(Edition::Drawn);
             if drawn {
-                took.to(p, 27)
+                took.to(p, Place::Reread)
             } else {
-                took.to(p, 22)
+                took.to(p, Place::Lift)
             }
         } else {
             self.put_nx(p, LockState::NONE).to_lift(p)
@@ -344,9 +357,9 @@ impl LockState {
     {
         let unheld = self.tail == LockState::NONE;
         if unheld {
-            self.put_tail(p).to(p, 9)
+            self.put_tail(p).to(p, Place::Inside)
         } else {
-            self.to(p, 24)
+            self.to(p, Place::OldPoll)
         }
     }
 
@@ -357,9 +370,9 @@ impl LockState {
     {
         let own = self.row(p);
         if own.flag {
-            self.put_flag(p, false).to(p, 25)
+            self.put_flag(p, false).to(p, Place::OldService)
         } else {
-            self.to(p, 23) // and tries again
+            self.to(p, Place::OldTry) // and tries again
         }
     }
 
@@ -367,7 +380,7 @@ impl LockState {
     pub(crate) fn old_service(self, p: u8) -> LockState
         ensures { result ≡ Acts.old_service self p }
     {
-        self.to(p, 23)
+        self.to(p, Place::OldTry)
     }
 
     // Whoever tries next has it, be it the one who leaves.
@@ -375,7 +388,7 @@ impl LockState {
     pub(crate) fn old_free(self, p: u8) -> LockState
         ensures { result ≡ Acts.old_free self p }
     {
-        self.put_tail(LockState::NONE).to(p, 0)
+        self.put_tail(LockState::NONE).to(p, Place::Rest)
     }
 
     // The figure trusts this read, though succ may have come back and cleared its next since the peek: nobody holds it at a gate.
@@ -388,9 +401,9 @@ impl LockState {
         let read = self.put_nx(p, succ.next);
         let unlinked = succ.next == LockState::NONE;
         if unlinked {
-            read.to(p, 28)
+            read.to(p, Place::Lost)
         } else {
-            read.put_succ(p, succ.next).to(p, 17)
+            read.put_succ(p, succ.next).to(p, Place::Hand)
         }
     }
 

@@ -1,10 +1,10 @@
 // Reading and replacing one row or one cell of a state. A row that is not there reads as fresh and is not replaced, so that
 // no act has to know that its neighbour's number is in range.
 ghost use Rattle.std.specs.Prelude.{◌≡◌};
-ghost use Rattle.lock.specs.Named.{locked_number};
+ghost use Rattle.lock.specs.Named.{locked_number, place_number};
 ghost use Rattle.lock.specs.State.{row, put_row, put_tail, put_next, put_locked, put_guard, put_flag, to, put_pred, put_succ, put_nx};
 
-use crate::{LockState, Locked, Row};
+use crate::{LockState, Locked, Place, Row};
 
 impl LockState {
     pub fn row(self, p: u8) -> Row
@@ -81,13 +81,13 @@ impl LockState {
         )
     }
 
-    pub(crate) fn to(self, p: u8, v: u8) -> LockState
-        ensures { result ≡ to self p v }
+    pub(crate) fn to(self, p: u8, v: Place) -> LockState
+        ensures { result ≡ to self p (place_number v) }
     {
         self.put_row(
             p,
             Row {
-                place: v,
+                place: u8::from(v),
                 ..self.row(p)
             },
         )

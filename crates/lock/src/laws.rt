@@ -2,7 +2,7 @@
 ghost use Rattle.lock.specs.Cases.{CasesHold};
 ghost use Rattle.lock.specs.Places.{SetsByName, RuleIsTheLists, EachPlaceSaidOnce};
 ghost use Rattle.lock.specs.Touched.{OneEventTouches};
-ghost use Rattle.lock.specs.Unique.{OnlyOneAnswer, OnlyOnePut};
+ghost use Rattle.lock.specs.Unique.{OnlyOneAnswer, OnlyOnePut, OnlyOneSays, OnlyOneNamed};
 
 // Document 01's cases P1 to P12.
 pub fn cases_hold()
@@ -22,6 +22,16 @@ pub fn only_one_answer()
 // And so do those of the two puts.
 pub fn only_one_put()
     ensures { OnlyOnePut }
+{}
+
+// Two answers that say the same refusal and the same state are the same.
+pub fn only_one_says()
+    ensures { OnlyOneSays }
+{}
+
+// And a number is taken for one edition, event or place.
+pub fn only_one_named()
+    ensures { OnlyOneNamed }
 {}
 
 // Which places an edition has: the sets of the rule by name.

@@ -18,6 +18,8 @@ mod sound;
 mod table;
 mod told;
 
+pub use places::{NoPlace, Place};
+
 // The limit as an array's length.
 const ROWS: usize = LockState::PROCESSORS as usize;
 

@@ -1,104 +1,105 @@
 // Which places an edition has, as the rule of request [5]: first what each part of a lock brings with it, then the editions, put
 // together from these parts. At the end stand the places by name.
 ghost use Rattle.std.specs.Prelude.{◌≡◌, ◌||◌};
+ghost use Rattle.lock.specs.Named.{edition_number, place_number, NamesPlace};
 ghost use Rattle.lock.specs.Sound.{is_in, has_place};
-ghost use Rattle.lock.specs.Places.{every_queue_lock_has, interrupts_add, guard_adds, second_read_adds, old_lock_has};
+ghost use Rattle.lock.specs.Places.{every_queue_lock_has, interrupts_add, guard_adds, second_read_adds, old_lock_has, has_by_rule};
 
-use crate::{Edition, LockState};
+use crate::Edition;
 
 // What every queue lock has. The plain lock has no more.
-fn every_queue_lock_has(place: u8) -> bool
-    ensures { result ≡ is_in every_queue_lock_has place }
+fn every_queue_lock_has(place: Place) -> bool
+    ensures { result ≡ is_in every_queue_lock_has (place_number place) }
 {
     match place {
         // as every lock
-        REST => true,
-        INSIDE => true,
+        Place::Rest => true,
+        Place::Inside => true,
         // to join the line
-        CLEAR => true,
-        SWAP => true,
-        ARM => true,
-        LINK => true,
+        Place::Clear => true,
+        Place::Swap => true,
+        Place::Arm => true,
+        Place::Link => true,
         // to wait in it
-        SPIN => true,
+        Place::Spin => true,
         // to hand the lock on
-        LOOK => true,
-        CLOSE => true,
-        AWAIT => true,
-        HAND => true,
+        Place::Look => true,
+        Place::Close => true,
+        Place::Await => true,
+        Place::Hand => true,
         _ => false,
     }
 }
 
 // What interrupts add to a queue lock.
-fn interrupts_add(place: u8) -> bool
-    ensures { result ≡ is_in interrupts_add place }
+fn interrupts_add(place: Place) -> bool
+    ensures { result ≡ is_in interrupts_add (place_number place) }
 {
     match place {
         // who waits may leave the line to serve one
-        POLL => true,
-        SERVICE => true,
+        Place::Poll => true,
+        Place::Service => true,
         // and then has to learn what became of its turn
-        BACK => true,
-        REGAIN => true,
+        Place::Back => true,
+        Place::Regain => true,
         // who hands on may meet one that is away
-        PARK => true,
-        PEEK => true,
-        TAKE => true,
+        Place::Park => true,
+        Place::Peek => true,
+        Place::Take => true,
         // and who joins behind that one may find the lock left with it
-        CLAIM => true,
-        SETTLE => true,
+        Place::Claim => true,
+        Place::Settle => true,
         _ => false,
     }
 }
 
 // What the guard adds to a lock with interrupts.
-fn guard_adds(place: u8) -> bool
-    ensures { result ≡ is_in guard_adds place }
+fn guard_adds(place: Place) -> bool
+    ensures { result ≡ is_in guard_adds (place_number place) }
 {
     match place {
         // who hands on guards one that is away, until it is done with it
-        FENCE => true,
-        LIFT => true,
+        Place::Fence => true,
+        Place::Lift => true,
         // and who is guarded does not join
-        GATE => true,
+        Place::Gate => true,
         _ => false,
     }
 }
 
 // What the second read adds to a lock with interrupts.
-fn second_read_adds(place: u8) -> bool
-    ensures { result ≡ is_in second_read_adds place }
+fn second_read_adds(place: Place) -> bool
+    ensures { result ≡ is_in second_read_adds (place_number place) }
 {
     match place {
         // who took the lock back asks anew to whom it goes
-        REREAD => true,
+        Place::Reread => true,
         // and may find nobody
-        LOST => true,
+        Place::Lost => true,
         _ => false,
     }
 }
 
 // What the old boards' lock has. It has no queue.
-fn old_lock_has(place: u8) -> bool
-    ensures { result ≡ is_in old_lock_has place }
+fn old_lock_has(place: Place) -> bool
+    ensures { result ≡ is_in old_lock_has (place_number place) }
 {
     match place {
         // as every lock
-        REST => true,
-        INSIDE => true,
+        Place::Rest => true,
+        Place::Inside => true,
         // of its own
-        OLD_TRY => true,
-        OLD_POLL => true,
-        OLD_SERVICE => true,
-        OLD_FREE => true,
+        Place::OldTry => true,
+        Place::OldPoll => true,
+        Place::OldService => true,
+        Place::OldFree => true,
         _ => false,
     }
 }
 
 // A queue lock with interrupts: drawn and guarded have this in common.
-fn lock_with_interrupts_has(place: u8) -> bool
-    ensures { result ≡ is_in every_queue_lock_has place || is_in interrupts_add place }
+fn lock_with_interrupts_has(place: Place) -> bool
+    ensures { result ≡ is_in every_queue_lock_has (place_number place) || is_in interrupts_add (place_number place) }
 {
     every_queue_lock_has(place) || interrupts_add(place)
 }
@@ -106,78 +107,115 @@ fn lock_with_interrupts_has(place: u8) -> bool
 // The editions do not nest. Drawn and guarded both have all that plain has; but the second read is drawn's alone and the guard is
 // guarded's alone, so neither of the two has all that the other has. The old boards' lock stands apart: it shares rest and inside
 // with the others, and nothing else.
+#[tactic(auto, unfolding(crate::specs::Places::has_by_rule))]
+fn edition_has(edition: Edition, place: Place) -> bool
+    ensures { result ≡ has_by_rule (edition_number edition) (place_number place) }
+{
+    match edition {
+        Edition::Plain => every_queue_lock_has(place),
+        Edition::Drawn => lock_with_interrupts_has(place) || second_read_adds(place),
+        Edition::Guarded => lock_with_interrupts_has(place) || guard_adds(place),
+        Edition::Old => old_lock_has(place),
+    }
+}
+
+// The same of numbers: one that is no edition has no place, and no edition has one that is none.
 pub(crate) fn has_place(edition: u8, place: u8) -> bool
     ensures { result ≡ has_place edition place }
 {
-    // A number that is no place: no set has it, and it is told sooner so.
-    if LockState::PLACES <= place {
+    let Ok(edition) = Edition::try_from(edition) else {
         return false;
-    }
-    match Edition::try_from(edition) {
-        Ok(Edition::Plain) => every_queue_lock_has(place),
-        Ok(Edition::Drawn) => lock_with_interrupts_has(place) || second_read_adds(place),
-        Ok(Edition::Guarded) => lock_with_interrupts_has(place) || guard_adds(place),
-        Ok(Edition::Old) => old_lock_has(place),
-        Err(_) => false,
-    }
+    };
+    let Ok(place) = Place::try_from(place) else {
+        return false;
+    };
+    edition_has(edition, place)
 }
 
 // The places by name, with their numbers in document 01 and requests [1] and [2]. A step at one of them does the act of that name
 // (`table`).
-pub(crate) const REST: u8 = 0;
+#[derive(Clone, Copy, Debug, PartialEq, Eq)]
+pub enum Place {
+    Rest = 0,
+    Gate = 1,
+    Clear = 2,
+    Swap = 3,
+    Arm = 4,
+    Link = 5,
+    Claim = 6,
+    Spin = 7,
+    Settle = 8,
+    Inside = 9,
+    Poll = 10,
+    Service = 11,
+    Back = 12,
+    Regain = 13,
+    Look = 14,
+    Close = 15,
+    Await = 16,
+    Hand = 17,
+    Fence = 18,
+    Park = 19,
+    Peek = 20,
+    Take = 21,
+    Lift = 22,
+    OldTry = 23,
+    OldPoll = 24,
+    OldService = 25,
+    OldFree = 26,
+    Reread = 27,
+    Lost = 28,
+}
 
-pub(crate) const GATE: u8 = 1;
+// A number that is no place.
+#[derive(Clone, Copy, Debug, PartialEq, Eq)]
+pub struct NoPlace;
 
-pub(crate) const CLEAR: u8 = 2;
+impl From<Place> for u8 {
+    ghost from_gives = { λ place number. number ≡ place_number place };
 
-pub(crate) const SWAP: u8 = 3;
+    fn from(place: Place) -> u8 {
+        place as u8
+    }
+}
 
-pub(crate) const ARM: u8 = 4;
+impl TryFrom<u8> for Place {
+    type Error = NoPlace;
 
-pub(crate) const LINK: u8 = 5;
+    ghost try_from_gives = { NamesPlace };
 
-pub(crate) const CLAIM: u8 = 6;
-
-pub(crate) const SPIN: u8 = 7;
-
-pub(crate) const SETTLE: u8 = 8;
-
-pub(crate) const INSIDE: u8 = 9;
-
-pub(crate) const POLL: u8 = 10;
-
-pub(crate) const SERVICE: u8 = 11;
-
-pub(crate) const BACK: u8 = 12;
-
-pub(crate) const REGAIN: u8 = 13;
-
-pub(crate) const LOOK: u8 = 14;
-
-pub(crate) const CLOSE: u8 = 15;
-
-pub(crate) const AWAIT: u8 = 16;
-
-pub(crate) const HAND: u8 = 17;
-
-pub(crate) const FENCE: u8 = 18;
-
-pub(crate) const PARK: u8 = 19;
-
-pub(crate) const PEEK: u8 = 20;
-
-pub(crate) const TAKE: u8 = 21;
-
-pub(crate) const LIFT: u8 = 22;
-
-pub(crate) const OLD_TRY: u8 = 23;
-
-pub(crate) const OLD_POLL: u8 = 24;
-
-pub(crate) const OLD_SERVICE: u8 = 25;
-
-pub(crate) const OLD_FREE: u8 = 26;
-
-pub(crate) const REREAD: u8 = 27;
-
-pub(crate) const LOST: u8 = 28;
+    fn try_from(number: u8) -> Result<Place, NoPlace> {
+        match number {
+            0 => Ok(Place::Rest),
+            1 => Ok(Place::Gate),
+            2 => Ok(Place::Clear),
+            3 => Ok(Place::Swap),
+            4 => Ok(Place::Arm),
+            5 => Ok(Place::Link),
+            6 => Ok(Place::Claim),
+            7 => Ok(Place::Spin),
+            8 => Ok(Place::Settle),
+            9 => Ok(Place::Inside),
+            10 => Ok(Place::Poll),
+            11 => Ok(Place::Service),
+            12 => Ok(Place::Back),
+            13 => Ok(Place::Regain),
+            14 => Ok(Place::Look),
+            15 => Ok(Place::Close),
+            16 => Ok(Place::Await),
+            17 => Ok(Place::Hand),
+            18 => Ok(Place::Fence),
+            19 => Ok(Place::Park),
+            20 => Ok(Place::Peek),
+            21 => Ok(Place::Take),
+            22 => Ok(Place::Lift),
+            23 => Ok(Place::OldTry),
+            24 => Ok(Place::OldPoll),
+            25 => Ok(Place::OldService),
+            26 => Ok(Place::OldFree),
+            27 => Ok(Place::Reread),
+            28 => Ok(Place::Lost),
+            _ => Err(NoPlace),
+        }
+    }
+}

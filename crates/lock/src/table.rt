@@ -1,46 +1,54 @@
 // The step table: which act a step does.
 ghost use Rattle.std.specs.Prelude.{◌≡◌};
-ghost use Rattle.lock.specs.Table.{stepped};
+ghost use Rattle.lock.specs.Named.{place_number};
+ghost use Rattle.lock.specs.Table.{place_at, act, stepped};
 
-use crate::{LockState, places};
+use crate::{LockState, NoPlace, Place};
 
 impl LockState {
     pub(crate) fn stepped(self, p: u8) -> LockState
         ensures { result ≡ stepped self p }
     {
-        let own = self.row(p);
-        let place = own.place;
+        match Place::try_from(self.row(p).place) {
+            Ok(place) => self.act(place, p),
+            // No sound state has such a number.
+            Err(NoPlace) => self,
+        }
+    }
+
+    fn act(self, place: Place, p: u8) -> LockState
+        ensures { result ≡ act (place_at (place_number place)) self p }
+    {
         match place {
-            places::REST => self.rest(p),
-            places::GATE => self.gate(p),
-            places::CLEAR => self.clear(p),
-            places::SWAP => self.swap(p),
-            places::ARM => self.arm(p),
-            places::LINK => self.link(p),
-            places::CLAIM => self.claim(p),
-            places::SPIN => self.spin(p),
-            places::SETTLE => self.settle(p),
-            places::INSIDE => self.inside(p),
-            places::POLL => self.poll(p),
-            places::SERVICE => self.service(p),
-            places::BACK => self.back(p),
-            places::REGAIN => self.regain(p),
-            places::LOOK => self.look(p),
-            places::CLOSE => self.close(p),
-            places::AWAIT => self.await_next(p),
-            places::HAND => self.hand(p),
-            places::FENCE => self.fence(p),
-            places::PARK => self.park(p),
-            places::PEEK => self.peek(p),
-            places::TAKE => self.take(p),
-            places::LIFT => self.lift(p),
-            places::OLD_TRY => self.old_try(p),
-            places::OLD_POLL => self.old_poll(p),
-            places::OLD_SERVICE => self.old_service(p),
-            places::OLD_FREE => self.old_free(p),
-            places::REREAD => self.reread(p),
-            places::LOST => self.lost(p),
-            _ => self,
+            Place::Rest => self.rest(p),
+            Place::Gate => self.gate(p),
+            Place::Clear => self.clear(p),
+            Place::Swap => self.swap(p),
+            Place::Arm => self.arm(p),
+            Place::Link => self.link(p),
+            Place::Claim => self.claim(p),
+            Place::Spin => self.spin(p),
+            Place::Settle => self.settle(p),
+            Place::Inside => self.inside(p),
+            Place::Poll => self.poll(p),
+            Place::Service => self.service(p),
+            Place::Back => self.back(p),
+            Place::Regain => self.regain(p),
+            Place::Look => self.look(p),
+            Place::Close => self.close(p),
+            Place::Await => self.await_next(p),
+            Place::Hand => self.hand(p),
+            Place::Fence => self.fence(p),
+            Place::Park => self.park(p),
+            Place::Peek => self.peek(p),
+            Place::Take => self.take(p),
+            Place::Lift => self.lift(p),
+            Place::OldTry => self.old_try(p),
+            Place::OldPoll => self.old_poll(p),
+            Place::OldService => self.old_service(p),
+            Place::OldFree => self.old_free(p),
+            Place::Reread => self.reread(p),
+            Place::Lost => self.lost(p),
         }
     }
 }

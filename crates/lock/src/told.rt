@@ -4,9 +4,10 @@
 ghost use Rattle.std.specs.Prelude.{◌≡◌};
 ghost use Rattle.lock.specs.State.{row, put_row, put_tail};
 ghost use Rattle.lock.specs.Sound.{sound};
+ghost use Rattle.lock.specs.Named.{edition_number, event_number, locked_number, place_number, refusal_number, NamesEdition, NamesEvent, NamesPlace};
 ghost use Rattle.lock.specs.Event.{told, fresh, happens, carried};
 
-use crate::{LockState, Refused, Row};
+use crate::{Edition, Event, LockState, Locked, NoPlace, Place, Refusal, Refused, Row};
 
 fn told_fresh(edition: u8, n: u8) -> Result<LockState, Refused>
     ensures { told result ≡ fresh edition n }
@@ -60,4 +61,52 @@ fn told_raise(s: LockState, p: u8) -> Result<LockState, Refused>
     ensures { told result ≡ happens s 2 p }
 {
     s.raise(p)
+}
+
+fn told_edition_number(edition: Edition) -> u8
+    ensures { result ≡ edition_number edition }
+{
+    u8::from(edition)
+}
+
+fn told_event_number(event: Event) -> u8
+    ensures { result ≡ event_number event }
+{
+    u8::from(event)
+}
+
+fn told_locked_number(locked: Locked) -> u8
+    ensures { result ≡ locked_number locked }
+{
+    u8::from(locked)
+}
+
+fn told_place_number(place: Place) -> u8
+    ensures { result ≡ place_number place }
+{
+    u8::from(place)
+}
+
+fn told_refusal_number(refusal: Refusal) -> u8
+    ensures { result ≡ refusal_number refusal }
+{
+    u8::from(refusal)
+}
+
+fn told_names_edition(number: u8) -> Result<Edition, Refusal>
+    ensures { NamesEdition number result }
+{
+    Edition::try_from(number)
+}
+
+fn told_names_event(number: u8) -> Result<Event, Refusal>
+    ensures { NamesEvent number result }
+{
+    Event::try_from(number)
+}
+
+fn told_names_place(number: u8) -> Result<Place, NoPlace>
+    ensures { NamesPlace number result }
+{
+    Place::try_from(number)
 }

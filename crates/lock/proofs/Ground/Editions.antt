@@ -89,8 +89,8 @@ rule_is e k = by (ltb k places) (ltb e editions) refl refl
         every_at places (λ k. every editions (right k)) all_right k (ltb-true k places i) in
         beq_eq _ _ (every_at editions (right k) column e (ltb-true e editions j))
 
-pub by_rule : (e k m : ℕ) (b : Bool) → e ≡ m → b ≡ has_by_rule m k → b ≡ has_place e k
-by_rule e k m b same right = right ∙ ap (λ e. has_by_rule e k) (sym same) ∙ rule_is e k
+pub by_rule : (e k m j : ℕ) (b : Bool) → e ≡ m → k ≡ j → b ≡ has_by_rule m j → b ≡ has_place e k
+by_rule e k m j b same place right = rw (same, place, ← rule_is m j) right
 
 pub sets_by_name : SetsByName
 sets_by_name = record { queue = refl; interrupts = refl; guard = refl; second_read = refl; old = refl }
