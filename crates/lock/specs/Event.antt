@@ -1,11 +1,13 @@
 -- Document 01, "Two events" and "What is turned away": making the fresh state, and an event on a state, with their refusals.
-use Rattle.std.specs.Prelude.{ℕ, Bool, true, not, ◌||◌, cond, eqb, ltb, leb, Result, Ok, Err}
+use Rattle.std.specs.Prelude.{ℕ, ◌≡◌, Bool, true, not, ◌||◌, cond, eqb, ltb, leb, Result, Ok, Err}
 use Rattle.lock.specs.declared.LockState.{LockState}
 use Rattle.lock.specs.declared.Refused.{Refused}
 use Rattle.lock.specs.State.{editions, processors, fresh_state, put_flag}
 use Rattle.lock.specs.Sound.{sound}
 use Rattle.lock.specs.Table.{stepped}
-use Rattle.lock.specs.Named.{refusal_number}
+use Rattle.lock.specs.declared.Event.{Event}
+use Rattle.lock.specs.declared.Refusal.{Refusal}
+use Rattle.lock.specs.Named.{event_number, refusal_number}
 
 -- What making the fresh state or an event answers, in document 01's terms: "the refusal number and the next state"; 0 for accepted.
 pub record Answer : Type 0 where
@@ -44,13 +46,22 @@ is_raise event = eqb event 2
 unfoldable pub raised : LockState → ℕ → LockState
 raised s p = put_flag s p true
 
+-- what an accepted event makes of the state
+abbrev pub after : LockState → ℕ → ℕ → LockState
+after s event p = cond (is_step event) (stepped s p) (raised s p)
+
 -- An event on a state that is known to be sound. 8: "event neither 1 nor 2"; 9: "processor not below N".
 -- "An event refused gives the same state back."
 abbrev pub carried : LockState → ℕ → ℕ → Answer
 carried s event p =
     cond (not (is_step event || is_raise event)) (refused 8 s)
     (cond (leb s.n p) (refused 9 s)
-    (accepted (cond (is_step event) (stepped s p) (raised s p))))
+    (accepted (after s event p)))
+
+-- The same as a test alone: the event of that number where it is accepted, and else the refusal.
+abbrev pub Accepts : LockState → ℕ → ℕ → Result Event Refusal → Type 0
+Accepts s event p (Ok e) = (event ≡ event_number e) × ((carried s event p).refusal ≡ 0)
+Accepts s event p (Err r) = (carried s event p).refusal ≡ refusal_number r
 
 -- "An event on a state: 11, 8, 9." 11: "the state handed in isn't sound"
 unfoldable pub happens : LockState → ℕ → ℕ → Answer

@@ -1,7 +1,8 @@
 // Making the fresh state, and an event on a state, with their refusals.
 ghost use Rattle.std.specs.Prelude.{◌≡◌};
 ghost use Rattle.lock.specs.State.{fresh_state};
-ghost use Rattle.lock.specs.Event.{told, fresh, happens, carried, raised};
+ghost use Rattle.lock.specs.Event.{told, Accepts, fresh, happens, carried, after, raised};
+ghost use Rattle.lock.specs.Named.{event_number};
 
 use crate::{Edition, Event, LockState, ROWS, Refusal, Refused, Row};
 
@@ -50,19 +51,36 @@ impl LockState {
         self.put_flag(p, true)
     }
 
+    // Whether a state of which the soundness is not asked accepts an event: the event of that number; or 8, 9.
+    pub fn accepts(&self, event: u8, p: u8) -> Result<Event, Refusal>
+        ensures { Accepts self.now event p result }
+    {
+        let event = Event::try_from(event)?;
+        let outside = self.n <= p;
+        if outside {
+            return Err(Refusal::NoSuchProcessor);
+        }
+        Ok(event)
+    }
+
+    // What an accepted event makes of the state.
+    pub fn after(self, event: Event, p: u8) -> LockState
+        ensures { result ≡ after self (event_number event) p }
+    {
+        match event {
+            Event::Step => self.stepped(p),
+            Event::Raise => self.raised(p),
+        }
+    }
+
     // One event on a state of which the soundness is not asked: the next state, or refusal 8 or 9 with the same state. For a
     // caller that has kept the state sound since it was fresh.
     pub fn carried(self, event: u8, p: u8) -> Result<LockState, Refused>
         ensures { told result ≡ carried self event p }
     {
-        let event = Event::try_from(event).map_err(|refusal| self.refused(refusal))?;
-        let outside = self.n <= p;
-        if outside {
-            return Err(self.refused(Refusal::NoSuchProcessor));
-        }
-        match event {
-            Event::Step => Ok(self.stepped(p)),
-            Event::Raise => Ok(self.raised(p)),
+        match self.accepts(event, p) {
+            Ok(event) => Ok(self.after(event, p)),
+            Err(refusal) => Err(self.refused(refusal)),
         }
     }
 

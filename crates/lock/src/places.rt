@@ -119,17 +119,14 @@ fn edition_has(edition: Edition, place: Place) -> bool
     }
 }
 
-// The same of numbers: one that is no edition has no place, and no edition has one that is none.
-pub(crate) fn has_place(edition: u8, place: u8) -> bool
-    ensures { result ≡ has_place edition place }
+// The same of a number: no edition has one that is no place.
+pub(crate) fn has_place(edition: Edition, place: u8) -> bool
+    ensures { result ≡ has_place (edition_number edition) place }
 {
-    let Ok(edition) = Edition::try_from(edition) else {
-        return false;
-    };
-    let Ok(place) = Place::try_from(place) else {
-        return false;
-    };
-    edition_has(edition, place)
+    match Place::try_from(place) {
+        Ok(place) => edition_has(edition, place),
+        Err(NoPlace) => false,
+    }
 }
 
 // The places by name, with their numbers in document 01 and requests [1] and [2]. A step at one of them does the act of that name

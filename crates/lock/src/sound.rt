@@ -2,9 +2,10 @@
 ghost use Rattle.std.specs.Prelude.{◌≡◌, ◌&&◌, cond, ltb};
 ghost use Rattle.lock.specs.Sound as Sound;
 ghost use Rattle.choice.specs.Every.{every};
+ghost use Rattle.lock.specs.Named.{edition_number};
 ghost use Rattle.lock.specs.State.{processors};
 
-use crate::{LockState, Locked, Row, places};
+use crate::{Edition, LockState, Locked, Row, places};
 
 fn none_or_below(n: u8, q: u8) -> bool
     ensures { result ≡ Sound.none_or_below n q }
@@ -28,8 +29,8 @@ fn cells_sound(n: u8, r: Row) -> bool
         & (r.locked <= u8::from(Locked::Rp))
 }
 
-fn place_sound(edition: u8, r: Row) -> bool
-    ensures { result ≡ Sound.place_sound edition r }
+fn place_sound(edition: Edition, r: Row) -> bool
+    ensures { result ≡ Sound.place_sound (edition_number edition) r }
 {
     let k = r.place;
     places::has_place(edition, k)
@@ -45,8 +46,8 @@ fn as_fresh(r: Row) -> bool
 }
 
 // Row number i of a state of that edition and N.
-fn sound_row(edition: u8, n: u8, i: u8, r: Row) -> bool
-    ensures { result ≡ cond (ltb i n) (Sound.cells_sound n r && Sound.place_sound edition r) (Sound.as_fresh r) }
+fn sound_row(edition: Edition, n: u8, i: u8, r: Row) -> bool
+    ensures { result ≡ cond (ltb i n) (Sound.cells_sound n r && Sound.place_sound (edition_number edition) r) (Sound.as_fresh r) }
 {
     let used = i < n;
     if used {
@@ -57,13 +58,14 @@ fn sound_row(edition: u8, n: u8, i: u8, r: Row) -> bool
 }
 
 impl LockState {
-    fn sound_rows(self) -> bool
+    fn sound_rows(self, edition: Edition) -> bool
+        requires { self.edition ≡ edition_number edition }
         ensures { result ≡ every processors (Sound.sound_row self) }
     {
         let rows = self.rows;
         let mut ok = true;
         for i in 0..LockState::PROCESSORS {
-            ok &= sound_row(self.edition, self.n, i, rows[i as usize]);
+            ok &= sound_row(edition, self.n, i, rows[i as usize]);
         }
         ok
     }
@@ -71,10 +73,12 @@ impl LockState {
     pub fn is_sound(self) -> bool
         ensures { result ≡ Sound.sound self }
     {
-        (self.edition < LockState::EDITIONS)
-            & (1 <= self.n)
+        let Ok(edition) = Edition::try_from(self.edition) else {
+            return false;
+        };
+        (1 <= self.n)
             & (self.n <= LockState::PROCESSORS)
             & none_or_below(self.n, self.tail)
-            & self.sound_rows()
+            & self.sound_rows(edition)
     }
 }

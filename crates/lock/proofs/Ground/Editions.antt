@@ -8,15 +8,20 @@
 --     said_once      each place is in one of the sets, and rest and inside are in two
 --     has_normal     the number may be taken for that of the place which it names
 --     has_queue      only the old boards' lock has the places that are apart
+--     edition_below  there is no edition past the last
 use Prim.Native.Nat.{ℕ, suc, ◌≤◌, ◌<◌}
 use native.Mathlib.Omega.{arith}
 use mathlib.Core.Path.{◌≡◌, refl, sym, ap, subst, ◌∙◌}
 use mathlib.Core.Bool.{Bool, true, false, ◌&&◌, ◌||◌, beq, cond}
 use lib.Dec.{eqb, ltb, leb}
 use borrow.Author.Tests.{eqb-true, ltb-true, ltb-false, lt-leb, ne_eqb}
+use Rattle.std.proofs.Common.{lit<}
 use Rattle.choice.specs.Every.{every}
 use Rattle.choice.proofs.Tests.{clash, beq_eq, implies, implied}
 use Rattle.choice.proofs.Numbers.{every_at}
+use Rattle.lock.specs.declared.Edition.{Edition}
+use Rattle.lock.specs.declared.Edition.TheVariants.{Plain, Drawn, Guarded, Old}
+use Rattle.lock.specs.Named.{edition_number}
 use Rattle.lock.specs.State.{editions, is_plain, is_drawn, is_guarded, is_old}
 use Rattle.lock.specs.Sound.{is_in, plain_places, drawn_places, guarded_last, old_places, has_place, places}
 use Rattle.lock.specs.Places.{every_queue_lock_has, interrupts_add, guard_adds, second_read_adds, old_lock_has, has_by_rule, times_said, SetsByName, RuleIsTheLists, EachPlaceSaidOnce}
@@ -89,8 +94,8 @@ rule_is e k = by (ltb k places) (ltb e editions) refl refl
         every_at places (λ k. every editions (right k)) all_right k (ltb-true k places i) in
         beq_eq _ _ (every_at editions (right k) column e (ltb-true e editions j))
 
-pub by_rule : (e k m j : ℕ) (b : Bool) → e ≡ m → k ≡ j → b ≡ has_by_rule m j → b ≡ has_place e k
-by_rule e k m j b same place right = rw (same, place, ← rule_is m j) right
+pub by_rule : (e k j : ℕ) (b : Bool) → k ≡ j → b ≡ has_by_rule e j → b ≡ has_place e k
+by_rule e k j b same right = rw (same, ← rule_is e j) right
 
 pub sets_by_name : SetsByName
 sets_by_name = record { queue = refl; interrupts = refl; guard = refl; second_read = refl; old = refl }
@@ -132,3 +137,12 @@ has_queue e m queue h = by (ltb e editions) (is_apart (phase_at m)) refl refl
         (ltb-true e editions i)) m)
         (rw (has_normal e m h) (ap (λ k. is_apart (entry k).phase) (placed m) ∙ j)))
         queue
+
+-- ---- by name
+
+-- there is no edition past the last
+pub edition_below : (e : Edition) → edition_number e < editions
+edition_below Plain = lit< tt
+edition_below Drawn = lit< tt
+edition_below Guarded = lit< tt
+edition_below Old = lit< tt

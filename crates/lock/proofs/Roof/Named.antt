@@ -18,6 +18,7 @@ use Rattle.lock.specs.declared.places.NoPlace.{NoPlace}
 use Rattle.lock.specs.declared.Refusal.{Refusal}
 use Rattle.lock.specs.declared.Refusal.TheVariants.{UnknownEdition, ProcessorCount, UnknownEvent, NoSuchProcessor, Unsound}
 use Rattle.lock.specs.declared.Refused.{Refused}
+use Rattle.lock.proofs.Ground.Editions.{edition_below}
 use Rattle.lock.specs.Event.{Answer}
 use Rattle.lock.specs.Named.{edition_number, place_number, refusal_number, NamesEdition, NamesEvent, NamesPlace}
 use Rattle.lock.specs.Unique.{OnlyOneSays, OnlyOneNamed}
@@ -36,12 +37,6 @@ edition_same Plain = refl
 edition_same Drawn = refl
 edition_same Guarded = refl
 edition_same Old = refl
-
-edition_below : (e : Edition) → edition_number e < 4
-edition_below Plain = lit< tt
-edition_below Drawn = lit< tt
-edition_below Guarded = lit< tt
-edition_below Old = lit< tt
 
 one_edition : (k : ℕ) (a b : Result Edition Refusal) → NamesEdition k a → NamesEdition k b → a ≡ b
 one_edition k (Ok e) (Ok f) p q = ap Ok (apart edition_number edition_back edition_same e f (sym p ∙ q))

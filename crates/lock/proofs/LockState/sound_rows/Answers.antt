@@ -20,16 +20,16 @@ unfolding every
 loop-i-init c = (search rules, refl)
 
 -- one row more
-one_more : (s : LockState) (i : ℕ) (ok b : Bool) (r : Row) → r ≡ row s i → ok ≡ every i (sound_row s) → b ≡ cond (ltb i s.n) (cells_sound s.n r && place_sound s.edition r) (as_fresh r) → (ok && b) ≡ every (i + 1) (sound_row s)
+one_more : (s : LockState) (e i : ℕ) (ok b : Bool) (r : Row) → s.edition ≡ e → r ≡ row s i → ok ≡ every i (sound_row s) → b ≡ cond (ltb i s.n) (cells_sound s.n r && place_sound e r) (as_fresh r) → (ok && b) ≡ every (i + 1) (sound_row s)
 unfolding every sound_row
-one_more s i ok b r e all one = simp (add-one, all, one, e)
+one_more s e i ok b r same it all one = simp (add-one, all, one, it, ← same)
 
 pub loop-i-preserved : goal.loop-i-preserved
 loop-i-preserved c =
     let at = c.loop-i in
     let s = c.args.self in
     let n : length s.rows ≡ processors = search (length_mapped, rules) in
-    (search rules, one_more s at.i _ _ _ (row_within s at.i (omega arith)) at.invariant.1 c.sound_row-ok.ensures)
+    (search rules, one_more s _ at.i _ _ _ c.requires (row_within s at.i (omega arith)) at.invariant.1 c.sound_row-ok.ensures)
 
 pub returns : goal.returns
 returns c =
