@@ -47,8 +47,8 @@ unfoldable pub raised : LockState → ℕ → LockState
 raised s p = put_flag s p true
 
 -- what an accepted event makes of the state
-abbrev pub after : LockState → ℕ → ℕ → LockState
-after s event p = cond (is_step event) (stepped s p) (raised s p)
+abbrev pub does : LockState → ℕ → ℕ → LockState
+does s event p = cond (is_step event) (stepped s p) (raised s p)
 
 -- An event on a state that is known to be sound. 8: "event neither 1 nor 2"; 9: "processor not below N".
 -- "An event refused gives the same state back."
@@ -56,7 +56,7 @@ abbrev pub carried : LockState → ℕ → ℕ → Answer
 carried s event p =
     cond (not (is_step event || is_raise event)) (refused 8 s)
     (cond (leb s.n p) (refused 9 s)
-    (accepted (after s event p)))
+    (accepted (does s event p)))
 
 -- The same as a test alone: the event of that number where it is accepted, and else the refusal.
 abbrev pub Accepts : LockState → ℕ → ℕ → Result Event Refusal → Type 0

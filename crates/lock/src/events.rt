@@ -1,17 +1,17 @@
 // Making the fresh state, and an event on a state, with their refusals.
 ghost use Rattle.std.specs.Prelude.{◌≡◌};
 ghost use Rattle.lock.specs.State.{fresh_state};
-ghost use Rattle.lock.specs.Event.{told, Accepts, fresh, happens, carried, after, raised};
-ghost use Rattle.lock.specs.Named.{event_number};
+ghost use Rattle.lock.specs.Event.{told, Accepts, fresh, happens, carried, does, raised};
+ghost use Rattle.lock.specs.Named.{edition_number, event_number};
 
 use crate::{Edition, Event, LockState, ROWS, Refusal, Refused, Row};
 
 impl LockState {
-    fn fresh_state(edition: u8, n: u8) -> LockState
-        ensures { result ≡ fresh_state edition n }
+    fn fresh_state(edition: Edition, n: u8) -> LockState
+        ensures { result ≡ fresh_state (edition_number edition) n }
     {
         LockState {
-            edition,
+            edition: u8::from(edition),
             n,
             tail: LockState::NONE,
             rows: [Row::fresh(); ROWS],
@@ -22,11 +22,11 @@ impl LockState {
     pub fn fresh(edition: u8, n: u8) -> Result<LockState, Refused>
         ensures { told result ≡ fresh edition n }
     {
-        let filler = LockState::fresh_state(u8::from(Edition::Plain), 1);
-        let unknown = LockState::EDITIONS <= edition;
-        if unknown {
-            return Err(filler.refused(Refusal::UnknownEdition));
-        }
+        let filler = LockState::fresh_state(Edition::Plain, 1);
+        let edition = match Edition::try_from(edition) {
+            Ok(edition) => edition,
+            Err(refusal) => return Err(filler.refused(refusal)),
+        };
         let outside = (n == 0) | (LockState::PROCESSORS < n);
         if outside {
             return Err(filler.refused(Refusal::ProcessorCount));
@@ -64,8 +64,8 @@ impl LockState {
     }
 
     // What an accepted event makes of the state.
-    pub fn after(self, event: Event, p: u8) -> LockState
-        ensures { result ≡ after self (event_number event) p }
+    pub fn does(self, event: Event, p: u8) -> LockState
+        ensures { result ≡ does self (event_number event) p }
     {
         match event {
             Event::Step => self.stepped(p),
@@ -79,7 +79,7 @@ impl LockState {
         ensures { told result ≡ carried self event p }
     {
         match self.accepts(event, p) {
-            Ok(event) => Ok(self.after(event, p)),
+            Ok(event) => Ok(self.does(event, p)),
             Err(refusal) => Err(self.refused(refusal)),
         }
     }

@@ -24,7 +24,7 @@ pub fn only_one_put()
     ensures { OnlyOnePut }
 {}
 
-// Two answers that say the same refusal and the same state are the same.
+// Two answers that say the same refusal and the same state are the same, and so of the test and of the act alone.
 pub fn only_one_says()
     ensures { OnlyOneSays }
 {}

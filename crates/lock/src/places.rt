@@ -2,7 +2,7 @@
 // together from these parts. At the end stand the places by name.
 ghost use Rattle.std.specs.Prelude.{◌≡◌, ◌||◌};
 ghost use Rattle.lock.specs.Named.{edition_number, place_number, NamesPlace};
-ghost use Rattle.lock.specs.Sound.{is_in, has_place};
+ghost use Rattle.lock.specs.Sound.{is_in, wants_pred, wants_succ, wants_nx};
 ghost use Rattle.lock.specs.Places.{every_queue_lock_has, interrupts_add, guard_adds, second_read_adds, old_lock_has, has_by_rule};
 
 use crate::Edition;
@@ -108,7 +108,7 @@ fn lock_with_interrupts_has(place: Place) -> bool
 // guarded's alone, so neither of the two has all that the other has. The old boards' lock stands apart: it shares rest and inside
 // with the others, and nothing else.
 #[tactic(auto, unfolding(crate::specs::Places::has_by_rule))]
-fn edition_has(edition: Edition, place: Place) -> bool
+pub(crate) fn has_place(edition: Edition, place: Place) -> bool
     ensures { result ≡ has_by_rule (edition_number edition) (place_number place) }
 {
     match edition {
@@ -116,16 +116,6 @@ fn edition_has(edition: Edition, place: Place) -> bool
         Edition::Drawn => lock_with_interrupts_has(place) || second_read_adds(place),
         Edition::Guarded => lock_with_interrupts_has(place) || guard_adds(place),
         Edition::Old => old_lock_has(place),
-    }
-}
-
-// The same of a number: no edition has one that is no place.
-pub(crate) fn has_place(edition: Edition, place: u8) -> bool
-    ensures { result ≡ has_place (edition_number edition) place }
-{
-    match Place::try_from(place) {
-        Ok(place) => edition_has(edition, place),
-        Err(NoPlace) => false,
     }
 }
 
@@ -214,5 +204,37 @@ impl TryFrom<u8> for Place {
             28 => Ok(Place::Lost),
             _ => Err(NoPlace),
         }
+    }
+}
+
+impl Place {
+    // Whoever stands there has somebody before it.
+    pub(crate) fn wants_pred(self) -> bool
+        ensures { result ≡ wants_pred (place_number self) }
+    {
+        matches!(self, Place::Arm | Place::Link | Place::Claim)
+    }
+
+    // Has somebody to hand the lock to.
+    pub(crate) fn wants_succ(self) -> bool
+        ensures { result ≡ wants_succ (place_number self) }
+    {
+        matches!(
+            self,
+            Place::Hand
+                | Place::Fence
+                | Place::Park
+                | Place::Peek
+                | Place::Take
+                | Place::Lift
+                | Place::Reread
+        )
+    }
+
+    // Has read who comes after that one.
+    pub(crate) fn wants_nx(self) -> bool
+        ensures { result ≡ wants_nx (place_number self) }
+    {
+        matches!(self, Place::Take)
     }
 }

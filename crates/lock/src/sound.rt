@@ -5,7 +5,8 @@ ghost use Rattle.choice.specs.Every.{every};
 ghost use Rattle.lock.specs.Named.{edition_number};
 ghost use Rattle.lock.specs.State.{processors};
 
-use crate::{Edition, LockState, Locked, Row, places};
+use crate::places::has_place;
+use crate::{Edition, LockState, Locked, Place, Row};
 
 fn none_or_below(n: u8, q: u8) -> bool
     ensures { result ≡ Sound.none_or_below n q }
@@ -32,11 +33,13 @@ fn cells_sound(n: u8, r: Row) -> bool
 fn place_sound(edition: Edition, r: Row) -> bool
     ensures { result ≡ Sound.place_sound (edition_number edition) r }
 {
-    let k = r.place;
-    places::has_place(edition, k)
-        & is_there((4 <= k) & (k <= 6), r.pred)
-        & is_there(((17 <= k) & (k <= 22)) | (k == 27), r.succ)
-        & is_there(k == 21, r.nx)
+    let Ok(place) = Place::try_from(r.place) else {
+        return false;
+    };
+    has_place(edition, place)
+        & is_there(place.wants_pred(), r.pred)
+        & is_there(place.wants_succ(), r.succ)
+        & is_there(place.wants_nx(), r.nx)
 }
 
 fn as_fresh(r: Row) -> bool

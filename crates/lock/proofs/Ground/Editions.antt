@@ -1,9 +1,7 @@
 -- Which places an edition has: the rule of request [5] is the lists of document 01 and requests [1] and [2], by one computed
 -- test.
 --     has_beyond     no edition has a number that is no place
---     has_none       no other edition has a place
 --     rule_is        the rule and the lists say the same of every two numbers
---     by_rule        what the rule says of its edition is what that edition has
 --     sets_by_name   the rule's five sets by name
 --     said_once      each place is in one of the sets, and rest and inside are in two
 --     has_normal     the number may be taken for that of the place which it names
@@ -53,7 +51,7 @@ none_of e x y z w h =
     let other : (v : ℕ) → v < editions → eqb e v ≡ false = λ v small. ne_eqb e v (λ q. omega arith) in
     simp (other 0 (omega arith), other 1 (omega arith), other 2 (omega arith), other 3 (omega arith))
 
-pub has_none : (e k : ℕ) → editions ≤ e → false ≡ has_place e k
+has_none : (e k : ℕ) → editions ≤ e → false ≡ has_place e k
 unfolding has_place
 has_none e k h = none_of e (is_in plain_places k) (is_in drawn_places k) (leb k guarded_last) (is_in old_places k) h
 
@@ -93,9 +91,6 @@ rule_is e k = by (ltb k places) (ltb e editions) refl refl
         let column : every editions (right k) ≡ true =
         every_at places (λ k. every editions (right k)) all_right k (ltb-true k places i) in
         beq_eq _ _ (every_at editions (right k) column e (ltb-true e editions j))
-
-pub by_rule : (e k j : ℕ) (b : Bool) → k ≡ j → b ≡ has_by_rule e j → b ≡ has_place e k
-by_rule e k j b same right = rw (same, ← rule_is e j) right
 
 pub sets_by_name : SetsByName
 sets_by_name = record { queue = refl; interrupts = refl; guard = refl; second_read = refl; old = refl }

@@ -4,4 +4,4 @@ use Rattle.lock.proofs.LockState.fresh_state.Goals as goal
 
 pub returns : goal.returns
 unfolding fresh_state
-returns c = simp c.fresh.ensures
+returns c = simp (c.from.ensures, c.fresh.ensures)
