@@ -1,8 +1,9 @@
 -- The loop over the later lines, part way: what it has written and what is still to come are the whole log.
 --     begins                   where the loop begins
---     stop_room, stops         a line that is refused: there is room for its refusal, and with it the log is whole
+--     room_left                in what is left of the buffer is the room that the rest of the text needs
+--     stops                    a line that is refused: with its refusal the log is whole
 --     show_room, goes_on       an event that is accepted: there is room for its row, and the loop stands one line further
---     count_room, count_ends   at the end of the text there is room for the count, and with it the log is whole
+--     count_ends               at the end of the text the log is whole with the count
 -- Assumes nothing.
 use Prim.Native.Nat.{ℕ, suc, ◌+◌, ◌≤◌, ◌<◌}
 use native.Mathlib.Omega.{arith}
@@ -19,11 +20,10 @@ use Rattle.lock.specs.State.{row}
 use Rattle.lock.specs.Kept.{Whole}
 use Rattle.frame.specs.Reading.{rest_of}
 use Rattle.bench.specs.Log.{refused_at, counted, row_shown, shown, Turn, stopped, turn_of, log_from}
-use Rattle.bench.specs.Steps.{filled, laid, later_log, lines_room}
+use Rattle.bench.specs.Steps.{Fills, later_log, lines_room, shows}
 use Rattle.bench.proofs.Sizes.{count_size, refusal_size, row_size, GoesOn, Stops, turn_size}
 use Rattle.bench.proofs.Fuel.{log_ends, log_turns}
-use Rattle.bench.proofs.Frames.{shows}
-use Rattle.bench.proofs.Parts.{put, filled_by}
+use Rattle.bench.proofs.Parts.{part, back, part_is, put, filled_by}
 
 -- Where the loop stands: `out` was `buffer`, `at` bytes of it are written, and the log of `text` from the state
 -- `first` on is what is written and what is still to come.
@@ -47,40 +47,35 @@ further at n out buffer e = sym (drop-drop n at out) ∙ ap (drop n) e ∙ drop-
 
 module _ (text : List ℕ) (first : LockState) (buffer out rest : List ℕ) (s : LockState) (accepted at : ℕ)
     (i : Carried text first buffer out rest s accepted at) where
+  pub room_left : lines_room rest ≤ length (part at out)
+  room_left = omega (arith, i.room, i.long, ap length (part_is at out), length-drop at out)
+
   -- the last line of the log is written
-  ends : (line last : List ℕ) → log_from (length rest) s accepted rest ≡ line → at + length line ≤ length out →
-      last ≡ laid at line out →
-      (at + length line ≡ length (later_log first text)) × (last ≡ filled (later_log first text) buffer)
-  ends line last is room e =
-      let p = put at out line room last e in
-      filled_by (later_log first text) buffer last (at + length line)
-      (omega (arith, p.long))
+  ends : (line : List ℕ) → log_from (length rest) s accepted rest ≡ line → length line ≤ 11 → (size : ℕ) (last : List ℕ) →
+      Fills line size (part at out) last →
+      Fills (later_log first text) (at + size) buffer (back at out last)
+  ends line is short size last w =
+      let p = put at out line (omega (arith, i.room, i.long)) last w.1 in
+      rw w.0
+      (filled_by (later_log first text) buffer (back at out last) (at + length line)
+      (omega (arith, p.long, i.room, i.long))
       (p.front ∙ ap (λ (l : List ℕ). take at out ++ l) (sym is) ∙ i.log)
-      (p.kept ∙ further at (length line) out buffer i.kept)
+      (p.kept ∙ further at (length line) out buffer i.kept))
 
-  pub count_room : at + length (counted accepted) ≤ length out
-  count_room = omega (arith, count_size accepted, i.room, i.long)
-
-  pub count_ends : length rest ≤ 0 → (size : ℕ) → size ≡ at + length (counted accepted) → (last : List ℕ) →
-      last ≡ laid at (counted accepted) out →
-      (size ≡ length (later_log first text)) × (last ≡ filled (later_log first text) buffer)
-  count_ends none size f last e =
-      rw f (ends (counted accepted) last (log_ends (length rest) s accepted rest none) count_room e)
+  pub count_ends : length rest ≤ 0 → (size : ℕ) (last : List ℕ) → Fills (counted accepted) size (part at out) last →
+      Fills (later_log first text) (at + size) buffer (back at out last)
+  count_ends none =
+      ends (counted accepted) (log_ends (length rest) s accepted rest none) (omega (arith, count_size accepted))
 
   module _ (some : 0 < length rest) where
-    module _ (refusal : ℕ) (t : turn_of s (accepted + 2) rest ≡ stopped s refusal (accepted + 2)) where
-      pub stop_room : at + length (refused_at refusal (accepted + 2)) ≤ length out
-      stop_room = omega (arith, refusal_size refusal (accepted + 2), i.room, i.long)
+    pub stops : (refusal : ℕ) → turn_of s (accepted + 2) rest ≡ stopped s refusal (accepted + 2) → (size : ℕ) (last : List ℕ) →
+        Fills (refused_at refusal (accepted + 2)) size (part at out) last →
+        Fills (later_log first text) (at + size) buffer (back at out last)
+    stops refusal t =
+        let line = refused_at refusal (accepted + 2) in
+        ends line (log_turns s accepted rest some ∙ simp t (append-nil line)) (omega (arith, refusal_size refusal (accepted + 2)))
 
-      pub stops : (size : ℕ) → size ≡ at + length (refused_at refusal (accepted + 2)) → (last : List ℕ) →
-          last ≡ laid at (refused_at refusal (accepted + 2)) out →
-          (size ≡ length (later_log first text)) × (last ≡ filled (later_log first text) buffer)
-      stops size f last e =
-          let line = refused_at refusal (accepted + 2) in
-          rw f (ends line last (log_turns s accepted rest some ∙ simp t (append-nil line)) stop_room e)
-
-    module _ (next : LockState) (event p : ℕ) (t : turn_of s (accepted + 2) rest ≡ shows next event p) (r : Row)
-        (g : r ≡ row next p) where
+    module _ (next : LockState) (event p : ℕ) (t : turn_of s (accepted + 2) rest ≡ shows next event p) where
       -- a turn that goes on has read nine bytes
       nine : 9 ≤ length rest
       nine =
@@ -88,33 +83,35 @@ module _ (text : List ℕ) (first : LockState) (buffer out rest : List ℕ) (s :
           (λ (z : Stops (turn_of s (accepted + 2) rest)). absurd (true≢false (sym (ap (λ (u : Turn). u.goes_on) t) ∙ z.0)))
           (turn_size s (accepted + 2) rest)
 
-      line_is : row_shown p next.tail r event ≡ shown next event p
-      unfolding shown
-      line_is = ap (λ (x : Row). row_shown p next.tail x event) g
+      pub show_room : 17 ≤ length (part at out)
+      show_room = omega (arith, nine, room_left)
 
-      pub show_room : at + length (row_shown p next.tail r event) ≤ length out
-      show_room = omega (arith, row_size p next.tail r event, nine, i.room, i.long)
+      module _ (r : Row) (g : r ≡ row next p) where
+        line_is : row_shown p next.tail r event ≡ shown next event p
+        unfolding shown
+        line_is = ap (λ (x : Row). row_shown p next.tail x event) g
 
-      pub goes_on : Whole next → (end : ℕ) → end ≡ at + length (row_shown p next.tail r event) → (last : List ℕ) →
-          last ≡ laid at (row_shown p next.tail r event) out → (later : List ℕ) → later ≡ rest_of rest →
-          Carried text first buffer last later next (accepted + 1) end
-      goes_on w end f last e later h =
-          let line = row_shown p next.tail r event in
-          let is-put = put at out line show_room last e in
-          rw (h, f)
-          (record {
-            long = is-put.long ∙ i.long;
-            room = omega (arith, i.room, length-drop 9 rest, row_size p next.tail r event, nine);
-            kept = is-put.kept ∙ further at (length line) out buffer i.kept;
-            log =
-                ap (λ (l : List ℕ). l ++ log_from (length (rest_of rest)) next (accepted + 1) (rest_of rest))
-                is-put.front
-                ∙ append_assoc (take at out) line (log_from (length (rest_of rest)) next (accepted + 1) (rest_of rest))
-                ∙ ap (λ (l : List ℕ). take at out ++ l)
-                (ap (λ (k : ℕ). line ++ log_from (length (rest_of rest)) next k (rest_of rest)) (add-one accepted)
-                ∙ ap (λ (l : List ℕ). l ++ log_from (length (rest_of rest)) next (suc accepted) (rest_of rest)) line_is
-                ∙ sym (log_turns s accepted rest some ∙ simp t))
-                ∙ i.log;
-            fewer = omega (arith, i.fewer, length-drop 9 rest, nine);
-            sound = w;
-          })
+        pub goes_on : Whole next → (size : ℕ) (last : List ℕ) → Fills (row_shown p next.tail r event) size (part at out) last →
+            (later : List ℕ) → later ≡ rest_of rest →
+            Carried text first buffer (back at out last) later next (accepted + 1) (at + size)
+        goes_on sound size last w later h =
+            let line = row_shown p next.tail r event in
+            let long : length line ≡ 17 = row_size p next.tail r event in
+            let is-put = put at out line (omega (arith, long, nine, i.room, i.long)) last w.1 in
+            rw (h, w.0)
+            (record {
+              long = is-put.long ∙ i.long;
+              room = omega (arith, i.room, length-drop 9 rest, long, nine);
+              kept = is-put.kept ∙ further at (length line) out buffer i.kept;
+              log =
+                  ap (λ (l : List ℕ). l ++ log_from (length (rest_of rest)) next (accepted + 1) (rest_of rest))
+                  is-put.front
+                  ∙ append_assoc (take at out) line (log_from (length (rest_of rest)) next (accepted + 1) (rest_of rest))
+                  ∙ ap (λ (l : List ℕ). take at out ++ l)
+                  (ap (λ (k : ℕ). line ++ log_from (length (rest_of rest)) next k (rest_of rest)) (add-one accepted)
+                  ∙ ap (λ (l : List ℕ). l ++ log_from (length (rest_of rest)) next (suc accepted) (rest_of rest)) line_is
+                  ∙ sym (log_turns s accepted rest some ∙ simp t))
+                  ∙ i.log;
+              fewer = omega (arith, i.fewer, length-drop 9 rest, nine);
+              sound = sound;
+            })

@@ -16,16 +16,12 @@ use Rattle.lock.specs.Event.{happens}
 use Rattle.frame.specs.Pairs.{pairs_from}
 use Rattle.frame.specs.Reading.{Told, refused_by, kind_of, reads}
 use Rattle.frame.proofs.Refusals.{by_order, is_zero}
-use Rattle.bench.specs.Steps.{opened_log}
-use Rattle.bench.specs.Log.{shown, refused_at, Turn, stopped, answered, followed, turn_of, begun, opened}
+use Rattle.bench.specs.Steps.{opened_log, shows}
+use Rattle.bench.specs.Log.{refused_at, stopped, answered, followed, turn_of, begun, opened}
 
 -- a frame's numbers as the reader says them
 abbrev pub framed : ℕ → ℕ → ℕ → ℕ → Told
 framed kind first second check = record { refusal = 0; numbers = kind ∷ first ∷ second ∷ check ∷ [] }
-
--- a turn that goes on, with the row of the event's processor
-abbrev pub shows : LockState → ℕ → ℕ → Turn
-shows s event p = record { goes_on = true; written = shown s event p; next = s }
 
 four_are_some : (text : List ℕ) → [] ≡ pairs_from 0 4 text → ⊥
 unfolding pairs_from

@@ -28,8 +28,8 @@ use Rattle.lock.proofs.Roof.Callers.{calls_are_a_run}
 use Rattle.frame.specs.Reading.{reads, rest_of}
 use Rattle.bench.specs.Log.{longest, refused_at, counted, shown, stopped, answered, followed, turn_of, log_from, begun, opened, log_of}
 use Rattle.bench.specs.Bridge.{call_of, rows_of, are_accepted, edition_of, processors_of, first_state, first_refusal, line_refusal, heard_from, heard_of, refusal_of, ending, first_line, later_lines, LogIsARun}
+use Rattle.bench.specs.Steps.{shows}
 use Rattle.bench.proofs.Sizes.{shown_size}
-use Rattle.bench.proofs.Frames.{shows}
 
 module _ (s : LockState) (line b : ℕ) (text : List ℕ) where
   abbrev here : List ℕ

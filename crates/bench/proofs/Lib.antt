@@ -14,5 +14,6 @@ pub mod Verdict
 pub mod Along
 pub mod Case
 pub mod Upper
+pub mod Unique
 pub mod Proved
 pub mod Examples

@@ -1,4 +1,5 @@
 -- A line written into the part of a buffer that begins at a place, and the buffer when the part is back.
+--     wrote        a line that fits, as the writer leaves it, fills the buffer's first bytes
 --     part_is      the part lent from a place to the end is what the buffer holds from that place on
 --     put_whole    the buffer when the part is back: as it was up to the place, and then the part
 --     laid_is      the buffer with a line in it: as it was up to the place, the line, and as it was after it
@@ -8,15 +9,25 @@
 use Prim.Native.Nat.{ℕ, ◌+◌, ◌-◌, ◌≤◌}
 use native.Mathlib.Omega.{arith}
 use mathlib.Core.Path.{◌≡◌, sym, ap, ◌∙◌}
-use mathlib.Core.Bool.{true}
 use mathlib.Core.List.{List, ◌++◌, append_assoc, append-nil}
 use lib.ListN.{length, take, drop, length-append, length-drop, take-append-drop, drop_of_length-le}
 use lib.Seq.{take_all, length-take-le, drop-drop, take_at, drop_at}
-use lib.Dec.{leb}
 use borrow.Author.Tests.{le-leb}
 use borrow.Rule.Slice.PartMut.{mid_of, put_mid}
 use Rattle.frame.specs.Writing.{leaves}
-use Rattle.bench.specs.Steps.{filled, laid}
+use Rattle.bench.specs.Steps.{filled, Fills}
+
+pub leaves_fills : (line buffer : List ℕ) → length line ≤ length buffer → leaves line buffer ≡ filled line buffer
+unfolding leaves
+leaves_fills line buffer h = simp (le-leb (length line) (length buffer) h)
+
+pub wrote : (line buffer : List ℕ) (n : ℕ) → length line ≡ n → n ≤ length buffer → (last : List ℕ) → last ≡ leaves line buffer →
+    Fills line n buffer last
+wrote line buffer n size room last e = (sym size, e ∙ leaves_fills line buffer (omega (arith, size, room)))
+
+-- a line in a buffer from the byte `at` on, and every other byte as it was
+abbrev pub laid : ℕ → List ℕ → List ℕ → List ℕ
+laid at line buffer = take at buffer ++ (line ++ drop (at + length line) buffer)
 
 -- the line stands in the buffer from a place on: `out` was before
 pub record Put (at : ℕ) (out line after : List ℕ) : Type 0 where
@@ -25,38 +36,39 @@ pub record Put (at : ℕ) (out line after : List ℕ) : Type 0 where
   pub kept : drop (at + length line) after ≡ drop (at + length line) out
 
 module _ (at : ℕ) (out : List ℕ) where
-  pub part_is : mid_of at (length out - at) out ≡ drop at out
+  -- the part from the place on, and the buffer when it is back
+  abbrev pub part : List ℕ
+  part = mid_of at (length out - at) out
+
+  abbrev pub back : List ℕ → List ℕ
+  back ys = put_mid at (length out - at) out ys
+
+  pub part_is : part ≡ drop at out
   part_is = take_all (length out - at) (drop at out) (omega (arith, length-drop at out))
 
-  pub put_whole : (ys : List ℕ) → put_mid at (length out - at) out ys ≡ take at out ++ ys
+  pub put_whole : (ys : List ℕ) → back ys ≡ take at out ++ ys
   put_whole ys =
       ap (λ (l : List ℕ). take at out ++ (ys ++ l))
       (drop_of_length-le (drop at out) {i = length out - at} (omega (arith, length-drop at out)))
       ∙ ap (λ (l : List ℕ). take at out ++ l) (append-nil ys)
 
   module _ (line : List ℕ) (room : at + length line ≤ length out) where
-    fits : leb (length line) (length (drop at out)) ≡ true
-    fits = le-leb (length line) (length (drop at out)) (omega (arith, length-drop at out))
-
-    pub laid_is : (last : List ℕ) → last ≡ leaves line (mid_of at (length out - at) out) →
-        put_mid at (length out - at) out last ≡ laid at line out
-    unfolding leaves
+    laid_is : (last : List ℕ) → last ≡ filled line part → back last ≡ laid at line out
     laid_is last e =
         put_whole last
         ∙ ap (λ (l : List ℕ). take at out ++ l)
         (e
-        ∙ ap (leaves line) part_is
-        ∙ (simp fits)
+        ∙ ap (filled line) part_is
         ∙ ap (λ (l : List ℕ). line ++ l) (drop-drop (length line) at out))
 
     written_long : length (take at out ++ line) ≡ at + length line
     written_long =
         length-append (take at out) line ∙ ap (λ (n : ℕ). n + length line) (length-take-le at out (omega arith))
 
-    pub put : (after : List ℕ) → after ≡ laid at line out → Put at out line after
-    put after e =
-        let is : after ≡ (take at out ++ line) ++ drop (at + length line) out =
-        e ∙ sym (append_assoc (take at out) line (drop (at + length line) out)) in
+    pub put : (last : List ℕ) → last ≡ filled line part → Put at out line (back last)
+    put last e =
+        let is : back last ≡ (take at out ++ line) ++ drop (at + length line) out =
+        laid_is last e ∙ sym (append_assoc (take at out) line (drop (at + length line) out)) in
         record {
           long =
               ap length is
@@ -72,7 +84,7 @@ module _ (at : ℕ) (out : List ℕ) where
 
 pub filled_by : (log buffer after : List ℕ) (n : ℕ) → n ≤ length after → take n after ≡ log →
     drop n after ≡ drop n buffer →
-    (n ≡ length log) × (after ≡ filled log buffer)
+    Fills log n buffer after
 filled_by log buffer after n h front kept =
     let size : n ≡ length log = sym (length-take-le n after h) ∙ ap length front in (
       size,

@@ -13,6 +13,7 @@ use Rattle.bench.proofs.Hearing.{log_is_run}
 use Rattle.bench.proofs.Along.{accepted_is_run, rows_follow, entry_mark}
 use Rattle.bench.proofs.Case.{log_raised, as_before, sharp}
 use Rattle.bench.proofs.Upper.{log_upper}
+use Rattle.bench.proofs.Unique.{told_one, number_one}
 
 pub fuel_does_not_matter : FuelDoesNotMatter
 fuel_does_not_matter fuel s accepted text h = fuel_same fuel (length text) s accepted text h (omega arith)
@@ -25,6 +26,8 @@ only_one_answer_fits =
     record {
       to_bench = λ text out r s after kept p f q g. (p ∙ sym q, f ∙ sym g);
       to_room = λ bytes r s p q. p ∙ sym q;
+      to_told = told_one;
+      to_number = number_one;
     }
 
 pub every_log_is_a_run : EveryLogIsARun

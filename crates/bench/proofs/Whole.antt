@@ -17,10 +17,9 @@ use lib.Seq.{length-take-le}
 use lib.Dec.{ltb}
 use borrow.Author.Tests.{ltb-false}
 use Rattle.choice.proofs.Tests.{cases}
-use Rattle.bench.specs.declared.Logged.{Logged}
 use Rattle.bench.specs.Log.{longest, refused_at, log_of}
-use Rattle.bench.specs.Lent.{room_for, logged, left, Counts}
-use Rattle.bench.specs.Steps.{filled, opened_log, lines_room}
+use Rattle.bench.specs.Lent.{Logged, room_for, logged, left, Counts}
+use Rattle.bench.specs.Steps.{Fills, opened_log, lines_room}
 
 eleven : (bytes : ℕ) → 11 ≤ room_for bytes
 unfolding room_for
@@ -56,13 +55,12 @@ module _ (text : List ℕ) where
       pub long_room : 11 ≤ length out
       long_room = omega (arith, ltb-false (length out) room h, e, eleven (length text))
 
-      pub is_logged : (log : List ℕ) → log_of text ≡ log → (size : ℕ) → size ≡ length log → (last : List ℕ) →
-          last ≡ filled log out →
+      pub is_logged : (log : List ℕ) → log_of text ≡ log → (size : ℕ) (last : List ℕ) → Fills log size out last →
           (◌≡◌ {A = Logged} (record { refusal = 0; length = size }) (logged text out)) ×
           ((last ≡ left text out) × Counts size last)
       unfolding logged left
-      is_logged log is size f last g =
-          let within : size ≤ length last = omega (arith, ap length g, length-append log (drop (length log) out)) in (
-            simp (← e, h, is, f),
-            (simp (← e, h, is) g, (within, sym (length-take-le size last within))),
+      is_logged log is size last w =
+          let within : size ≤ length last = omega (arith, w.0, ap length w.1, length-append log (drop (length log) out)) in (
+            simp (← e, h, is, w.0),
+            (simp (← e, h, is) w.1, (within, sym (length-take-le size last within))),
           )

@@ -2,11 +2,13 @@
 --     FuelDoesNotMatter    the fuel of `log_from` changes nothing once it is the length of the text
 --     LogFitsItsRoom       a log is within the room that the bench asks for it
 --     OnlyOneAnswerFits    two answers, and two buffers, that meet the contract of a public function are one
-use Rattle.std.specs.Prelude.{ℕ, ◌≤◌, ◌≡◌, List, length}
+use Rattle.std.specs.Prelude.{ℕ, ◌≤◌, ◌≡◌, List, Result, length}
 use Rattle.lock.specs.declared.LockState.{LockState}
-use Rattle.bench.specs.declared.Logged.{Logged}
+use Rattle.frame.specs.declared.NoRoom.{NoRoom}
+use Rattle.bench.specs.declared.Refusal.{Refusal}
+use Rattle.bench.specs.Named.{number}
 use Rattle.bench.specs.Log.{log_from, log_of}
-use Rattle.bench.specs.Lent.{room_for, logged, left}
+use Rattle.bench.specs.Lent.{Logged, told, room_for, logged, left}
 
 abbrev pub FuelDoesNotMatter : Type 0
 FuelDoesNotMatter =
@@ -16,9 +18,11 @@ FuelDoesNotMatter =
 abbrev pub LogFitsItsRoom : Type 0
 LogFitsItsRoom = (text : List ℕ) → length (log_of text) ≤ room_for (length text)
 
--- `bench`, and `room_for`
+-- `bench`, and `room_for`; and what is told of an answer, or the number of a refusal, leaves one answer and one refusal
 pub record OnlyOneAnswerFits : Type 0 where
   pub to_bench : (text out : List ℕ) (r s : Logged) (after kept : List ℕ) →
       r ≡ logged text out → after ≡ left text out → s ≡ logged text out → kept ≡ left text out →
       (r ≡ s) × (after ≡ kept)
   pub to_room : (bytes r s : ℕ) → r ≡ room_for bytes → s ≡ room_for bytes → r ≡ s
+  pub to_told : (r s : Result ℕ NoRoom) → told r ≡ told s → r ≡ s
+  pub to_number : (r s : Refusal) → number r ≡ number s → r ≡ s

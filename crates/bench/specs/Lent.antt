@@ -1,9 +1,20 @@
 -- What the bench answers for a lent buffer, and what the buffer holds afterwards. Document 01 leaves open a buffer
 -- that is too short for the whole log: it is refused by 10, before anything is written, where it is shorter than a
 -- room that goes by the schedule's length alone and that no log of such a schedule exceeds.
-use Rattle.std.specs.Prelude.{ℕ, ◌+◌, ◌*◌, ◌/◌, ◌≤◌, ◌≡◌, cond, List, ◌++◌, length, take, drop, ltb}
-use Rattle.bench.specs.declared.Logged.{Logged}
+use Rattle.std.specs.Prelude.{ℕ, ◌+◌, ◌*◌, ◌/◌, ◌≤◌, ◌≡◌, cond, List, ◌++◌, Result, Ok, Err, length, take, drop, ltb}
+use Rattle.frame.specs.declared.NoRoom.{NoRoom}
+use Rattle.frame.specs.Writing.{no_room}
 use Rattle.bench.specs.Log.{longest, log_of}
+
+-- What the bench answers, in numbers: refusal 10 or 0, and how many bytes of the lent buffer the log fills.
+pub record Logged : Type 0 where
+  pub refusal : ℕ
+  pub length : ℕ
+
+-- "a definition gives this paper's number and values for each of its cases": what the code's answer says
+abbrev pub told : Result ℕ NoRoom → Logged
+told (Ok size) = record { refusal = 0; length = size }
+told (Err _) = record { refusal = no_room; length = 0 }
 
 -- 17 bytes for each whole line, and 11 for the refusal of what follows them; 11 for a schedule that is too long
 unfoldable pub room_for : ℕ → ℕ

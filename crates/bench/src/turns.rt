@@ -1,47 +1,50 @@
-// From line to line: the loop over the later lines. The state stands in the loop: an event's answer goes straight into it, and
-// no function above `carried` takes or hands on a state, since each would copy all its rows.
+// From line to line: the loop over the later lines. The state stands in the loop, and what an event makes of it goes straight into it:
+// asked first and done then, since an answer with a state in it would be copied with all its rows.
 ghost use Rattle.std.specs.Prelude.{◌≡◌, ◌≤◌, length};
 ghost use Rattle.lock.specs.Kept.{Whole};
-ghost use Rattle.bench.specs.Steps.{filled, later_log, lines_room};
+ghost use Rattle.bench.specs.Steps.{Fills, Turns, later_log, lines_room};
 
-use crate::lines;
-use frame::Line;
+use crate::{Refusal, lines};
+use frame::Frame;
 use lock::LockState;
 
-// The later lines, one after the other, from a state on: how many bytes are written. The state is sound since it was fresh, so
-// no event tests it.
+// What the line at the beginning of the text asks for, done on the state; the answer is the line, with its event and processor.
+// The state is sound since it was fresh, so no event tests it.
+fn turn(state: &mut LockState, text: &[u8]) -> Result<Frame, Refusal>
+    requires { Whole state.old }
+    ensures { Turns state.old text.now state.new result }
+{
+    let line = frame::read(text, false)?;
+    let event = state.accepts(line.first, line.second)?;
+    *state = state.does(event, line.second);
+    Ok(line)
+}
+
+// The later lines, one after the other, from a state on: how many bytes are written.
 pub(crate) fn follow(out: &mut [u8], first: LockState, text: &[u8]) -> usize
     requires text_in_bounds { lines_room text.now ≤ length out.old }
     requires whole { Whole first }
-    ensures value { result ≡ length (later_log first text.now) }
-    ensures out_after { out.new ≡ filled (later_log first text.now) out.old }
+    ensures { Fills (later_log first text.now) result out.old out.new }
 {
     let mut rest = text;
     let mut state = first;
     let mut accepted = 0;
     let mut at = 0;
-    while 0 < rest.len() {
-        let line = accepted + 2;
-        match frame::read(rest, false) {
-            Line::Frame(_, event, p, _) => {
-                let answer = state.carried(event, p);
-                let refusal = answer.refusal;
-                if refusal != 0 {
-                    return lines::write_refused_at(out, at, refusal, line);
-                }
-                let next = answer.state;
-                state = next;
+    // No iterator: document 01 has the part from each line on handed on, and the remainder handed back ("Which form to use where").
+    while !rest.is_empty() {
+        match turn(&mut state, rest) {
+            Ok(line) => {
+                let p = line.second;
                 let row = state.row(p);
-                let end = lines::write_shown(out, at, p, state.tail, row, event);
-                at = end;
+                at += lines::write_shown(&mut out[at..], p, state.tail, row, line.first);
                 accepted += 1;
-                let left = frame::rest(rest);
-                rest = left;
+                rest = frame::rest(rest);
             }
-            Line::Refused(refusal) => {
-                return lines::write_refused_at(out, at, refusal, line);
+            Err(refusal) => {
+                let line = accepted + 2;
+                return at + lines::write_refused_at(&mut out[at..], refusal, line);
             }
         }
     }
-    lines::write_counted(out, at, accepted)
+    at + lines::write_counted(&mut out[at..], accepted)
 }

@@ -9,17 +9,14 @@
 --     pair_of_digits            the two digits of v make v
 --     digits_of_pair            the digits of what two digits make are, up to case, those two
 -- Assumes nothing.
-use Rattle.std.proofs.Common.{◌≡◌, ℕ, ◌+◌, ◌*◌, ◌/◌, ◌%◌, ◌<◌, Bool, true, false, not, ◌&&◌, ◌||◌, eqb, ltb, leb, ◌⊎◌, refl, ap, ◌∙◌, inl, inr, ⊎_elim, arith, ltb-true, eqb-true, leb-true}
+use Rattle.std.proofs.Common.{◌≡◌, ℕ, ◌+◌, ◌*◌, ◌/◌, ◌%◌, ◌<◌, Bool, true, false, not, ◌&&◌, ◌||◌, eqb, ltb, leb, refl, ap, ◌∙◌, ⊎_elim, arith, ltb-true, eqb-true, leb-true}
+use Rattle.std.proofs.lemmas.Bool.{or_cases}
 use borrow.Author.Tests.{not-true}
 use Rattle.choice.specs.Every.{every}
 use Rattle.choice.proofs.Numbers.{every_at}
 use Rattle.choice.proofs.Tests.{and_right, implies, implied}
 use Rattle.frame.specs.Case.{is_lower, upper_of}
 use Rattle.frame.specs.Pairs.{is_digit, value_of, digit_of}
-
-or_cases : (a b : Bool) → a || b ≡ true → (a ≡ true) ⊎ (b ≡ true)
-or_cases true b e = inl refl
-or_cases false b e = inr e
 
 -- a byte that is not above one of the ranges' ends is at most f
 within : (low b high : ℕ) → high < 103 → leb low b && leb b high ≡ true → b < 103

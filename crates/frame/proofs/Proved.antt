@@ -1,13 +1,15 @@
 -- The statements of `specs/Laws.antt`, each with its proof.
 -- Assumes nothing.
-use Rattle.std.proofs.Common.{◌≡◌, ℕ, ◌<◌, Bool, true, false, List, [], ◌∷◌, get_or, take, sym, refl, ap, ◌∙◌, ⊎_elim, arith}
-use Rattle.frame.specs.declared.Line.{Line}
-use Rattle.frame.specs.declared.Line.TheVariants.{Frame, Refused}
+use Rattle.std.proofs.Common.{◌≡◌, ℕ, ◌<◌, Bool, true, false, cond, ◌==◌, Result, Ok, Err, List, [], ◌∷◌, get_or, take, sym, refl, ap, ◌∙◌, ⊎_elim, arith}
+use Rattle.frame.specs.declared.Frame.{Frame}
+use Rattle.frame.specs.declared.Refusal.{Refusal}
+use Rattle.frame.specs.declared.Refusal.TheVariants.{Torn, NotDigits, WrongCheck, WrongKind}
+use Rattle.frame.specs.declared.NoRoom.{NoRoom}
 use Rattle.choice.specs.Every.{every}
 use Rattle.frame.specs.Case.{upper_of, upper_case}
 use Rattle.frame.specs.Pairs.{value_of, digit_of, pair_at, pairs_from, sum_of, check_of}
-use Rattle.frame.specs.Reading.{told, is_torn, are_digits, read_as, kind_of}
-use Rattle.frame.specs.Writing.{digits_of, line_of}
+use Rattle.frame.specs.Reading.{number, told, is_torn, are_digits, read_as, kind_of}
+use Rattle.frame.specs.Writing.{digits_of, line_of, written}
 use Rattle.frame.specs.Laws.{DigitsAreInverse, CheckComesToZero, LengthsAreKnown, WritesUpperCase, WrittenIsReadBack, AcceptedIsWrittenUpToCase, ReadInEveryCase, CaseIsSharp, OnlyOneAnswerFits}
 use Rattle.frame.proofs.Digits.{digit_is_digit, value_of_digit, value_below, digit_of_value}
 use Rattle.frame.proofs.Sums.{sum_with_check}
@@ -79,22 +81,43 @@ case_is_sharp =
     }
 
 -- what an answer says determines it
-told_one : (r s : Line) → told r ≡ told s → r ≡ s
-told_one (Frame a b c d) (Frame k f g h) e =
-    let same : a ∷ b ∷ c ∷ d ∷ [] ≡ k ∷ f ∷ g ∷ h ∷ [] = ap (λ t. t.numbers) e in
+
+abbrev numbered : ℕ → Refusal
+numbered n = cond (n == 2) Torn (cond (n == 3) NotDigits (cond (n == 4) WrongCheck WrongKind))
+
+numbered_back : (r : Refusal) → numbered (number r) ≡ r
+numbered_back Torn = refl
+numbered_back NotDigits = refl
+numbered_back WrongCheck = refl
+numbered_back WrongKind = refl
+
+pub number_one : (r s : Refusal) → number r ≡ number s → r ≡ s
+number_one r s e = sym (numbered_back r) ∙ ap numbered e ∙ numbered_back s
+
+pub told_one : (r s : Result Frame Refusal) → told r ≡ told s → r ≡ s
+told_one (Ok f) (Ok g) e =
+    let same : f.kind ∷ f.first ∷ f.second ∷ f.check ∷ [] ≡ g.kind ∷ g.first ∷ g.second ∷ g.check ∷ [] = ap (λ t. t.numbers) e in
+    let frames : record { kind = f.kind; first = f.first; second = f.second; check = f.check }
+    ≡ record { kind = g.kind; first = g.first; second = g.second; check = g.check } = cc in
+    ap Ok frames
+told_one (Ok f) (Err n) e =
+    let same : f.kind ∷ f.first ∷ f.second ∷ f.check ∷ [] ≡ [] = ap (λ t. t.numbers) e in
     cc
-told_one (Frame a b c d) (Refused n) e =
-    let same : a ∷ b ∷ c ∷ d ∷ [] ≡ [] = ap (λ t. t.numbers) e in
+told_one (Err n) (Ok f) e =
+    let same : [] ≡ f.kind ∷ f.first ∷ f.second ∷ f.check ∷ [] = ap (λ t. t.numbers) e in
     cc
-told_one (Refused n) (Frame a b c d) e =
-    let same : [] ≡ a ∷ b ∷ c ∷ d ∷ [] = ap (λ t. t.numbers) e in
-    cc
-told_one (Refused m) (Refused n) e = ap Refused (ap (λ t. t.refusal) e)
+told_one (Err m) (Err n) e = ap Err (number_one m n (ap (λ t. t.refusal) e))
+
+pub written_one : (r s : Result (Unit {0}) NoRoom) → written r ≡ written s → r ≡ s
+written_one (Ok _) (Ok _) e = refl
+written_one (Ok _) (Err _) e = absurd (omega arith)
+written_one (Err _) (Ok _) e = absurd (omega arith)
+written_one (Err _) (Err _) e = refl
 
 pub only_one_answer_fits : OnlyOneAnswerFits
 only_one_answer_fits =
     record {
       to_read = λ text is_first r s p q. told_one r s (p ∙ sym q);
       to_rest = λ text r s p q. p ∙ sym q;
-      to_write = λ line buffer r s left kept p f q g. (p ∙ sym q, f ∙ sym g);
+      to_write = λ line buffer r s left kept p f q g. (written_one r s (p ∙ sym q), f ∙ sym g);
     }

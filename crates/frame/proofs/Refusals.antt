@@ -1,26 +1,44 @@
 -- The reader's refusals, by their order.
 --     whole_line      a line that is not torn has all its bytes, and ends in a line feed
+--     pairs_read, pairs_unread   whether the pairs are there says whether they are digits
 --     is_two .. is_five, is_zero   an answer from its condition and those before it
 --     by_order        and back: each is given exactly then
 -- Assumes nothing.
-use Rattle.std.proofs.Common.{◌≡◌, ℕ, ◌+◌, ◌*◌, ◌≤◌, Bool, true, false, not, ◌||◌, eqb, ltb, ◌≢◌, ◌⊎◌, ◌↔◌, List, length, refl, ap, inl, inr, ⊎_elim, true≢false, arith, ltb-false, eq-eqb, ne_eqb, eqb-true}
-use borrow.Author.Tests.{eqb-false, not-false}
-use Rattle.choice.proofs.Tests.{cases, clash}
+use Rattle.std.proofs.Common.{◌≡◌, ℕ, ◌+◌, ◌*◌, ◌≤◌, Bool, true, false, not, eqb, ltb, ◌≢◌, ◌↔◌, List, Some, None, if◌then◌else◌, length, refl, ap, inl, inr, ⊎_elim, arith, ltb-false, eq-eqb, ne_eqb, eqb-true}
+use Rattle.std.proofs.lemmas.Bool.{cases_eq}
+use borrow.Author.Tests.{not-false}
+use Rattle.choice.proofs.Tests.{cases, clash, neither_left, neither_right}
 use Rattle.frame.specs.Pairs.{byte_at, pair_at, pairs_from, sum_of, line_feed}
-use Rattle.frame.specs.Reading.{Told, refused_by, is_torn, are_digits, read_as, bytes_of}
+use Rattle.frame.specs.Reading.{Told, refused_by, is_torn, are_digits, pairs_of, read_as, bytes_of}
 use Rattle.frame.specs.Laws.{ByOrder, RefusalsGoByOrder}
-
-neither : (a b : Bool) → a || b ≡ false → (a ≡ false) × (b ≡ false)
-neither true b e = absurd (true≢false e)
-neither false b e = (refl, e)
 
 pub whole_line : (k : ℕ) (text : List ℕ) → is_torn k text ≡ false →
     (2 * k + 1 ≤ length text) × (byte_at text (2 * k) ≡ line_feed)
 unfolding is_torn
 whole_line k text e =
     let last = byte_at text (2 * k) in
-    let both = neither (ltb (length text) (bytes_of k)) (not (eqb last line_feed)) e in
-    (ltb-false (length text) (bytes_of k) both.0, eqb-true last line_feed (not-false (eqb last line_feed) both.1))
+    let short = ltb (length text) (bytes_of k) in
+    let other = not (eqb last line_feed) in (
+      ltb-false (length text) (bytes_of k) (neither_left short other e),
+      eqb-true last line_feed (not-false (eqb last line_feed) (neither_right short other e)),
+    )
+
+some_pairs : (is : Bool) (numbers pairs : List ℕ) → Some numbers ≡ (if is then Some pairs else None) → (is ≡ true) × (numbers ≡ pairs)
+some_pairs true numbers pairs e = (refl, cc)
+some_pairs false numbers pairs e = cc
+
+no_pairs : (is : Bool) (pairs : List ℕ) → None ≡ (if is then Some pairs else None) → is ≡ false
+no_pairs true pairs e = cc
+no_pairs false pairs e = refl
+
+pub pairs_read : (k : ℕ) (text numbers : List ℕ) → Some numbers ≡ pairs_of k text →
+    (are_digits k text ≡ true) × (numbers ≡ pairs_from 0 k text)
+unfolding pairs_of
+pairs_read k text numbers e = some_pairs (are_digits k text) numbers (pairs_from 0 k text) e
+
+pub pairs_unread : (k : ℕ) (text : List ℕ) → None ≡ pairs_of k text → are_digits k text ≡ false
+unfolding pairs_of
+pairs_unread k text e = no_pairs (are_digits k text) (pairs_from 0 k text) e
 
 module _ (k kind : ℕ) (text : List ℕ) where
   pub is_two : is_torn k text ≡ true → read_as k kind text ≡ refused_by 2
@@ -48,9 +66,6 @@ module _ (k kind : ℕ) (text : List ℕ) where
   unfolding read_as
   is_zero whole digits summed begun =
       simp (whole, digits, eq-eqb (sum_of (pairs_from 0 k text)) 0 summed, eq-eqb (pair_at text 0) kind begun)
-
-equal_or_not : (m n : ℕ) → (m ≡ n) ⊎ (m ≢ n)
-equal_or_not m n = ⊎_elim (λ e. inl (eqb-true m n e)) (λ e. inr (eqb-false m n e)) (cases (eqb m n))
 
 holds : {A B : Type 0} → A → B → A ↔ B
 holds a b = (λ _. b, λ _. a)
@@ -127,10 +142,10 @@ module _ (k kind : ℕ) (text : List ℕ) where
             }
 
         begun : ByOrder k kind text
-        begun = ⊎_elim accepted_case other_case (equal_or_not (pair_at text 0) kind)
+        begun = ⊎_elim accepted_case other_case (cases_eq (pair_at text 0) kind)
 
       summed : ByOrder k kind text
-      summed = ⊎_elim begun unsummed_case (equal_or_not (sum_of (pairs_from 0 k text)) 0)
+      summed = ⊎_elim begun unsummed_case (cases_eq (sum_of (pairs_from 0 k text)) 0)
 
     digited : ByOrder k kind text
     digited = ⊎_elim summed undigit_case (cases (are_digits k text))

@@ -1,12 +1,12 @@
 -- Sums that wrap at 256, and the check that brings one to 0.
 --     sum_below          a sum is below 256
 --     sum_of_last        one value more at the end is one addition more
---     sum_goes_on        so a loop over values goes on
+--     sum_folded         a fold by wrapping additions is the sum
 --     sum_with_check     the check brings the sum to 0
 --     check_is_only      and no other byte does
 --     negated_is_check   what is 0 with the sum is the check
 -- Assumes nothing.
-use Rattle.std.proofs.Common.{◌≡◌, ℕ, ◌+◌, ◌-◌, ◌%◌, ◌<◌, List, [], ◌∷◌, ◌++◌, length, get_or, take, sym, ap, ◌∙◌, add_assoc, add-one, arith, take-suc}
+use Rattle.std.proofs.Common.{◌≡◌, ℕ, ◌+◌, ◌-◌, ◌%◌, ◌<◌, List, [], ◌∷◌, ◌++◌, fold, sym, ap, ◌∙◌, add_assoc, arith}
 use native.Mathlib.Nat.{mod-add-mod, add-mod-mod}
 use Rattle.frame.specs.Pairs.{sum_of, check_of}
 
@@ -24,10 +24,17 @@ sum_of_last (v ∷ vs) c =
     ∙ ap (λ n. n % 256) (sym (add_assoc v (sum_of vs) c))
     ∙ sym (mod-add-mod (v + sum_of vs) 256 c)
 
-pub sum_goes_on : (values : List ℕ) (i total next : ℕ) → i < length values →
-    total ≡ sum_of (take i values) → next ≡ (total + get_or values i 0) % 256 → next ≡ sum_of (take (i + 1) values)
-sum_goes_on values i total next h so e =
-    cc (add-one i, take-suc values i 0 h, sum_of_last (take i values) (get_or values i 0))
+sums_folded : (vs : List ℕ) (t : ℕ) → t < 256 → fold (λ (t v : ℕ). (t + v) % 256) t vs ≡ (t + sum_of vs) % 256
+unfolding sum_of
+sums_folded [] t h = omega arith
+sums_folded (v ∷ vs) t h =
+    sums_folded vs ((t + v) % 256) (omega arith)
+    ∙ mod-add-mod (t + v) 256 (sum_of vs)
+    ∙ ap (λ n. n % 256) (add_assoc t v (sum_of vs))
+    ∙ sym (add-mod-mod t (v + sum_of vs) 256)
+
+pub sum_folded : (vs : List ℕ) → fold (λ (t v : ℕ). (t + v) % 256) 0 vs ≡ sum_of vs
+sum_folded vs = sums_folded vs 0 (omega arith) ∙ (let bound = sum_below vs in omega arith)
 
 zero_sum : (s : ℕ) → s < 256 → (s + (256 - s) % 256) % 256 ≡ 0
 zero_sum s h = omega arith

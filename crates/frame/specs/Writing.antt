@@ -1,9 +1,11 @@
 -- Document 01, "Frames": the line that is written of given values, and what a lent buffer holds afterwards.
 --     Bytes               values that a pair of digits can say
 --     digits_of, line_of  the line of any values
+--     no_room, written    the refusal's number, and what an answer says
 --     writes, leaves      what is answered, and what is left in the buffer
 --     header_line, row_line, count_line, refusal_line    the lines 01, 03, 04 and 05
-use Rattle.std.specs.Prelude.{ℕ, ◌/◌, ◌%◌, ◌<◌, cond, List, [], ◌∷◌, ◌++◌, length, drop, nat_le}
+use Rattle.std.specs.Prelude.{ℕ, ◌/◌, ◌%◌, ◌<◌, cond, Result, Ok, Err, List, [], ◌∷◌, ◌++◌, length, drop, nat_le}
+use Rattle.frame.specs.declared.NoRoom.{NoRoom}
 use Rattle.frame.specs.Pairs.{line_feed, digit_of, check_of}
 
 -- each value is a byte
@@ -19,6 +21,15 @@ digits_of (v ∷ vs) = digit_of (v / 16) ∷ digit_of (v % 16) ∷ digits_of vs
 -- the values, then the check, then the line feed
 unfoldable pub line_of : List ℕ → List ℕ
 line_of vs = digits_of (vs ++ (check_of vs ∷ [])) ++ (line_feed ∷ [])
+
+-- the one refusal's number
+abbrev pub no_room : ℕ
+no_room = 10
+
+-- what an answer says in document 01's terms: the refusal's number, 0 for a line written
+abbrev pub written : Result (Unit {0}) NoRoom → ℕ
+written (Ok _) = 0
+written (Err _) = no_room
 
 -- 10: "the lent line buffer is shorter than the line to write"; 0: written
 abbrev pub writes : List ℕ → List ℕ → ℕ

@@ -4,15 +4,16 @@
 // function one answer, and a lent buffer one content. Nobody calls these.
 //     told_read, told_rest                the reader
 //     told_write, told_frame, told_header, told_row, told_count, told_refusal    the writer
+//     told_number, told_no_room           the refusals' numbers
 //     told_laws, told_case                the laws, which answer nothing
 ghost use Rattle.std.specs.Prelude.{◌≡◌, [], ◌∷◌};
 ghost use Rattle.frame.specs.Laws.{DigitsAreInverse, CheckComesToZero, LengthsAreKnown, WritesUpperCase, WrittenIsReadBack, AcceptedIsWrittenUpToCase, ReadInEveryCase, CaseIsSharp, RefusalsGoByOrder, OnlyOneAnswerFits};
-ghost use Rattle.frame.specs.Reading.{told, reads, rest_of};
-ghost use Rattle.frame.specs.Writing.{line_of, writes, leaves, header_line, row_line, count_line, refusal_line};
+ghost use Rattle.frame.specs.Reading.{told, number, reads, rest_of};
+ghost use Rattle.frame.specs.Writing.{line_of, written, no_room, writes, leaves, header_line, row_line, count_line, refusal_line};
 
-use crate::Line;
+use crate::{Frame, NoRoom, Refusal};
 
-fn told_read(text: &[u8], is_first: bool) -> Line
+fn told_read(text: &[u8], is_first: bool) -> Result<Frame, Refusal>
     ensures { told result ≡ reads text.now is_first }
 {
     crate::read(text, is_first)
@@ -24,46 +25,66 @@ fn told_rest(text: &[u8]) -> &[u8]
     crate::rest(text)
 }
 
-fn told_write(out: &mut [u8], values: &[u8]) -> u8
-    ensures value { result ≡ writes (line_of values.now) out.old }
+fn told_write(out: &mut [u8], values: &[u8]) -> Result<(), NoRoom>
+    ensures value { written result ≡ writes (line_of values.now) out.old }
     ensures out_after { out.new ≡ leaves (line_of values.now) out.old }
 {
     crate::write(out, values)
 }
 
-fn told_frame(out: &mut [u8], kind: u8, first: u8, second: u8) -> u8
-    ensures value { result ≡ writes (line_of (kind ∷ first ∷ second ∷ [])) out.old }
+fn told_frame(out: &mut [u8], kind: u8, first: u8, second: u8) -> Result<(), NoRoom>
+    ensures value { written result ≡ writes (line_of (kind ∷ first ∷ second ∷ [])) out.old }
     ensures out_after { out.new ≡ leaves (line_of (kind ∷ first ∷ second ∷ [])) out.old }
 {
     crate::write_frame(out, kind, first, second)
 }
 
-fn told_header(out: &mut [u8], edition: u8, n: u8) -> u8
-    ensures value { result ≡ writes (header_line edition n) out.old }
+fn told_header(out: &mut [u8], edition: u8, n: u8) -> Result<(), NoRoom>
+    ensures value { written result ≡ writes (header_line edition n) out.old }
     ensures out_after { out.new ≡ leaves (header_line edition n) out.old }
 {
     crate::write_header(out, edition, n)
 }
 
-fn told_row(out: &mut [u8], p: u8, place: u8, tail: u8, locked: u8, next: u8, marks: u8) -> u8
-    ensures value { result ≡ writes (row_line p place tail locked next marks) out.old }
+fn told_row(
+    out: &mut [u8],
+    p: u8,
+    place: u8,
+    tail: u8,
+    locked: u8,
+    next: u8,
+    marks: u8,
+) -> Result<(), NoRoom>
+    ensures value { written result ≡ writes (row_line p place tail locked next marks) out.old }
     ensures out_after { out.new ≡ leaves (row_line p place tail locked next marks) out.old }
 {
     crate::write_row(out, p, place, tail, locked, next, marks)
 }
 
-fn told_count(out: &mut [u8], high: u8, low: u8) -> u8
-    ensures value { result ≡ writes (count_line high low) out.old }
+fn told_count(out: &mut [u8], high: u8, low: u8) -> Result<(), NoRoom>
+    ensures value { written result ≡ writes (count_line high low) out.old }
     ensures out_after { out.new ≡ leaves (count_line high low) out.old }
 {
     crate::write_count(out, high, low)
 }
 
-fn told_refusal(out: &mut [u8], refusal: u8, high: u8, low: u8) -> u8
-    ensures value { result ≡ writes (refusal_line refusal high low) out.old }
+fn told_refusal(out: &mut [u8], refusal: u8, high: u8, low: u8) -> Result<(), NoRoom>
+    ensures value { written result ≡ writes (refusal_line refusal high low) out.old }
     ensures out_after { out.new ≡ leaves (refusal_line refusal high low) out.old }
 {
     crate::write_refusal(out, refusal, high, low)
+}
+
+fn told_number(refusal: Refusal) -> u8
+    ensures { result ≡ number refusal }
+{
+    u8::from(refusal)
+}
+
+fn told_no_room(refusal: NoRoom) -> u8
+    ensures { result ≡ no_room }
+{
+    u8::from(refusal)
 }
 
 fn told_laws()

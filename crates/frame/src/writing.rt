@@ -4,42 +4,35 @@
 //     write_row        03
 //     write_count      04
 //     write_refusal    05
+// Each of these is a function of its own, since its parameters are the values that document 01 names for the line.
 ghost use Rattle.std.specs.Prelude.{◌≡◌, [], ◌∷◌};
-ghost use Rattle.frame.specs.Writing.{line_of, writes, leaves, header_line, row_line, count_line, refusal_line};
+ghost use Rattle.frame.specs.Writing.{line_of, written, writes, leaves, header_line, row_line, count_line, refusal_line};
 
-use crate::{COUNT, HEADER, LINE_FEED, REFUSAL, ROW, pairs};
-
-// Refusal 10, a buffer that is shorter than the line, and the answer that the line is written.
-const NO_ROOM: u8 = 10;
-
-const WRITTEN: u8 = 0;
+use crate::{Kind, LINE_FEED, NoRoom, pairs};
 
 // The bytes after the values: the check and the line feed.
 const ENDING: usize = 3;
 
-// Writes the values, their check and a line feed into the first bytes of `out`, and answers 0; or answers 10 and writes
-// nothing where `out` is shorter than that line.
-pub fn write(out: &mut [u8], values: &[u8]) -> u8
-    ensures value { result ≡ writes (line_of values.now) out.old }
+// Writes the values, their check and a line feed into the first bytes of `out`, or refuses and writes nothing
+// where `out` is shorter than that line.
+pub fn write(out: &mut [u8], values: &[u8]) -> Result<(), NoRoom>
+    ensures value { written result ≡ writes (line_of values.now) out.old }
     ensures out_after { out.new ≡ leaves (line_of values.now) out.old }
 {
     // The line has 2 * n + 3 bytes, which need not fit a usize: so the room is halved, and not n doubled.
     let n = values.len();
-    if out.len() < ENDING {
-        return NO_ROOM;
-    }
-    if (out.len() - ENDING) / 2 < n {
-        return NO_ROOM;
+    if out.len() < ENDING || (out.len() - ENDING) / 2 < n {
+        return Err(NoRoom);
     }
     pairs::put_pairs(out, values);
     pairs::put_pair(out, n, pairs::check(values));
     out[2 * n + 2] = LINE_FEED;
-    WRITTEN
+    Ok(())
 }
 
 // A line of four pairs, the ones that the reader reads: the kind, two values, the check.
-pub fn write_frame(out: &mut [u8], kind: u8, first: u8, second: u8) -> u8
-    ensures value { result ≡ writes (line_of (kind ∷ first ∷ second ∷ [])) out.old }
+pub fn write_frame(out: &mut [u8], kind: u8, first: u8, second: u8) -> Result<(), NoRoom>
+    ensures value { written result ≡ writes (line_of (kind ∷ first ∷ second ∷ [])) out.old }
     ensures out_after { out.new ≡ leaves (line_of (kind ∷ first ∷ second ∷ [])) out.old }
 {
     let values = [kind, first, second];
@@ -47,11 +40,11 @@ pub fn write_frame(out: &mut [u8], kind: u8, first: u8, second: u8) -> u8
 }
 
 // 01 edition N check
-pub fn write_header(out: &mut [u8], edition: u8, n: u8) -> u8
-    ensures value { result ≡ writes (header_line edition n) out.old }
+pub fn write_header(out: &mut [u8], edition: u8, n: u8) -> Result<(), NoRoom>
+    ensures value { written result ≡ writes (header_line edition n) out.old }
     ensures out_after { out.new ≡ leaves (header_line edition n) out.old }
 {
-    write_frame(out, HEADER, edition, n)
+    write_frame(out, u8::from(Kind::Header), edition, n)
 }
 
 // 03 processor place L locked next marks check
@@ -63,27 +56,35 @@ pub fn write_row(
     locked: u8,
     next: u8,
     marks: u8,
-) -> u8
-    ensures value { result ≡ writes (row_line processor place tail locked next marks) out.old }
+) -> Result<(), NoRoom>
+    ensures value { written result ≡ writes (row_line processor place tail locked next marks) out.old }
     ensures out_after { out.new ≡ leaves (row_line processor place tail locked next marks) out.old }
 {
-    let values = [ROW, processor, place, tail, locked, next, marks];
+    let values = [
+        u8::from(Kind::Row),
+        processor,
+        place,
+        tail,
+        locked,
+        next,
+        marks,
+    ];
     write(out, &values)
 }
 
 // 04 high low check
-pub fn write_count(out: &mut [u8], high: u8, low: u8) -> u8
-    ensures value { result ≡ writes (count_line high low) out.old }
+pub fn write_count(out: &mut [u8], high: u8, low: u8) -> Result<(), NoRoom>
+    ensures value { written result ≡ writes (count_line high low) out.old }
     ensures out_after { out.new ≡ leaves (count_line high low) out.old }
 {
-    write_frame(out, COUNT, high, low)
+    write_frame(out, u8::from(Kind::Count), high, low)
 }
 
 // 05 refusal high low check
-pub fn write_refusal(out: &mut [u8], refusal: u8, high: u8, low: u8) -> u8
-    ensures value { result ≡ writes (refusal_line refusal high low) out.old }
+pub fn write_refusal(out: &mut [u8], refusal: u8, high: u8, low: u8) -> Result<(), NoRoom>
+    ensures value { written result ≡ writes (refusal_line refusal high low) out.old }
     ensures out_after { out.new ≡ leaves (refusal_line refusal high low) out.old }
 {
-    let values = [REFUSAL, refusal, high, low];
+    let values = [u8::from(Kind::Refused), refusal, high, low];
     write(out, &values)
 }

@@ -7,8 +7,8 @@
 --     Follows             the state is that after the pile, and the journal holds the pile's newest entries, accepted ones
 --     call_follows        each call keeps that
 use Rattle.std.proofs.Common.{◌≡◌, ℕ, zero, suc, ◌+◌, ◌%◌, ◌<◌, ◌≤◌, Bool, true, false, cond, eqb, ltb, ◌≢◌, List, [], ◌∷◌, length, get_or, set, replicate, sym, refl, ap, ◌∙◌, subst, add-one, arith, length-set, get_or-set_other, get_or-set_same, ltb-false, ltb-true}
-use lib.ListN.{length-replicate}
-use borrow.Author.Tests.{eqb-false}
+use Rattle.std.proofs.lemmas.Bool.{eqb-false}
+use Rattle.std.proofs.lemmas.List.{length-replicate}
 use Rattle.lock.specs.Run.{Call}
 use Rattle.history.specs.Journal.{most, next, previous, deeper, shallower}
 use Rattle.history.specs.Survivors.{Pile, onto, off, but_newest, nothing}

@@ -6,6 +6,7 @@
 --     demand_three              demand 3 by that step
 --     calls_are_a_walk          what a caller of the library holds
 use Rattle.std.proofs.Common.{◌≡◌, ℕ, Bool, true, false, cond, not, ◌&&◌, ◌||◌, eqb, leb, List, [], ◌∷◌, ◌++◌, sym, refl, ap, ◌∙◌, true≢false}
+use Rattle.std.proofs.lemmas.Bool.{not-true}
 use Rattle.choice.proofs.Tests.{and_left, and_right}
 use Rattle.lock.specs.declared.LockState.{LockState}
 use Rattle.lock.specs.State.{fresh_state}
@@ -78,11 +79,7 @@ unfolding piled run
 pile_runs s k [] h = refl
 pile_runs s k (c ∷ cs) h =
     pile_runs s (told s k c) cs (and_right (not (is_undo c.event)) (no_undo cs) h)
-    ∙ ap (λ x. run x cs) (one_more_told s k c (not_so (is_undo c.event) (and_left (not (is_undo c.event)) (no_undo cs) h)))
-  where
-    not_so : (b : Bool) → not b ≡ true → b ≡ false
-    not_so true e = absurd (true≢false (sym e))
-    not_so false e = refl
+    ∙ ap (λ x. run x cs) (one_more_told s k c (not-true (is_undo c.event) (and_left (not (is_undo c.event)) (no_undo cs) h)))
 
 pub survivors_run : (s : LockState) (calls : List Call) → no_undo calls ≡ true → run s (survivors s calls) ≡ run s calls
 unfolding survivors oldest_first run

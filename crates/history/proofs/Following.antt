@@ -4,8 +4,8 @@
 --     Ready, ready         a history that follows a pile is whole, and its newest entry brings back a sound state
 --     goes_follows         an event keeps that
 --     starts               the fresh history follows the empty pile
-use Rattle.std.proofs.Common.{◌≡◌, ℕ, zero, suc, ◌%◌, ◌<◌, Bool, true, false, cond, not, ◌&&◌, ◌||◌, eqb, ltb, leb, List, [], ◌∷◌, length, get_or, sym, refl, ap, ◌∙◌, subst, true≢false, arith, lt-ltb, eqb-true, le-leb, leb-false}
-use borrow.Author.Tests.{eqb-false}
+use Rattle.std.proofs.Common.{◌≡◌, ℕ, zero, suc, ◌%◌, ◌<◌, Bool, true, false, cond, not, ◌&&◌, eqb, ltb, List, [], ◌∷◌, length, get_or, sym, refl, ap, ◌∙◌, subst, arith, lt-ltb, eqb-true, le-leb}
+use Rattle.std.proofs.lemmas.Bool.{eqb-false}
 use Rattle.choice.proofs.Tests.{and_both}
 use Rattle.lock.specs.declared.LockState.{LockState}
 use Rattle.lock.specs.Event.{Answer}
@@ -24,6 +24,7 @@ use Rattle.history.specs.declared.History.{History}
 use Rattle.history.specs.Journal.{most, empty_entry, empty_journal, previous, entry_of, restored, in_range, pushed, newest, popped}
 use Rattle.history.specs.Event.{accepted, refused, unwritten, is_undo, is_whole, brings_back, stepped_back, undone, recorded, goes}
 use Rattle.history.specs.Survivors.{Pile, nothing, onto, off, oldest_first, takes_back, accepts, told, afterward}
+use Rattle.history.proofs.Keeping.{happens_carried, taken_below}
 use Rattle.history.proofs.AnyState as Any
 use Rattle.history.proofs.AnyState.{Layer}
 
@@ -66,23 +67,6 @@ unfolding Any.told told
 told_same s k c =
     ap (λ x. cond (takes_back c) (cond (eqb k.depth 0) k (off k)) (cond (accepts x c) (onto k c) k)) (pile_state s k.calls)
 
--- ---- what an accepted call tells
-
-below_by :
-    (fit known high : Bool) (s t : LockState)
-    → eqb (cond (not fit) (Lock.refused 11 s) (cond (not known) (Lock.refused 8 s) (cond high (Lock.refused 9 s) (Lock.accepted t)))).refusal 0 ≡ true
-    → high ≡ false
-below_by false known high s t h = absurd (true≢false (sym h))
-below_by true false high s t h = absurd (true≢false (sym h))
-below_by true true true s t h = absurd (true≢false (sym h))
-below_by true true false s t h = refl
-
-accepted_below : (s : LockState) (c : Call) → accepts s c ≡ true → c.processor < s.n
-unfolding happens
-accepted_below s c h =
-    leb-false s.n c.processor
-    (below_by (sound s) (is_step c.event || is_raise c.event) (leb s.n c.processor) s _ h)
-
 -- an undo is no event of the lock
 undo_unknown : (s : LockState) (c : Call) → is_undo c.event ≡ true → accepts s c ≡ false
 unfolding happens
@@ -109,7 +93,8 @@ module _ (s : LockState) (w : Whole s) where
   entry_brings : (x : LockState) (c : Call) → Whole x → accepts x c ≡ true → brings_back (after x c) (entry_of x c.processor) ≡ true
   unfolding brings_back entry_of
   entry_brings x c whole taken =
-      let below = accepted_below x c taken in
+      let same = ap (λ (a : Answer). eqb a.refusal 0) (sym (happens_carried x whole c.event c.processor)) in
+      let below = taken_below x c.event c.processor (eqb-true _ 0 (same ∙ taken)) in
       let size = (one_event_touches x c).n in
       let near = near_below whole below in
       let own = lt-ltb c.processor (after x c).n (subst (λ n. c.processor < n) (sym size) below) in
@@ -179,12 +164,6 @@ module _ (h : History) (r : Ready h) where
       by true = refl
       by false = refl
 
-  -- on a sound state the lock's two events are one
-  happens_carried : (event p : ℕ) → happens h.lock event p ≡ carried h.lock event p
-  unfolding happens
-  happens_carried event p =
-      ap (λ b. cond (not b) (Lock.refused 11 h.lock) (carried h.lock event p)) r.whole.fit
-
   event_seen :
       (event p : ℕ) (c : Call) → c ≡ record { event = event; processor = p }
       → seen (recorded h p (carried h.lock event p)).state
@@ -192,7 +171,7 @@ module _ (h : History) (r : Ready h) where
   unfolding pushed Any.pushed after
   event_seen event p c e =
       recorded_seen p (carried h.lock event p)
-      ∙ ap (λ a. seen_by p a (eqb a.refusal 0)) (sym (happens_carried event p))
+      ∙ ap (λ a. seen_by p a (eqb a.refusal 0)) (sym (happens_carried h.lock r.whole event p))
       ∙ ap (λ (x : Call). cond (accepts h.lock x) (Any.pushed lock_layer (seen h) x) (seen h)) (sym e)
 
   pub goes_seen : (c : Call) → seen (afterward h c) ≡ Any.goes lock_layer (seen h) c

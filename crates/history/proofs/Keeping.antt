@@ -1,9 +1,10 @@
 -- Soundness is kept: an accepted event on a whole history, whatever its journal, gives a whole history, and names a processor.
 --     Kept            what an accepted answer is
+--     happens_carried, taken_below    the lock's two events are one, and name a processor where they are accepted
 --     event_kept      an event, by its tests in their order
 --     sound_is_kept   the claim
-use Rattle.std.proofs.Common.{◌≡◌, ℕ, ◌-◌, ◌<◌, ◌≤◌, Bool, true, false, cond, not, ◌&&◌, ◌||◌, eqb, ltb, leb, length, set, sym, refl, ap, ◌∙◌, arith, length-set, ltb-true, lt-ltb, eqb-true, le-leb, leb-false, leb-true}
-use borrow.Author.Tests.{eqb-false}
+use Rattle.std.proofs.Common.{◌≡◌, ℕ, ◌-◌, ◌<◌, ◌≤◌, true, cond, not, ◌&&◌, ◌||◌, eqb, ltb, leb, length, set, sym, refl, ap, ◌∙◌, arith, length-set, ltb-true, lt-ltb, eqb-true, le-leb, leb-false, leb-true}
+use Rattle.std.proofs.lemmas.Bool.{eqb-false, not-false}
 use Rattle.choice.proofs.Tests.{and_left, and_right, and_both, by_test}
 use Rattle.lock.specs.declared.LockState.{LockState}
 use Rattle.lock.specs.Event.{Answer}
@@ -19,7 +20,7 @@ use Rattle.lock.proofs.Touched.{one_event_touches}
 use Rattle.history.specs.declared.Entry.{Entry}
 use Rattle.history.specs.declared.Journal.{Journal}
 use Rattle.history.specs.declared.History.{History}
-use Rattle.history.specs.declared.Outcome.{Outcome}
+use Rattle.history.specs.Event.{Outcome}
 use Rattle.history.specs.Journal.{most, next, previous, deeper, entry_of, restored, in_range, pushed, newest, popped}
 use Rattle.history.specs.Event.{is_undo, is_whole, brings_back, stepped_back, undone, recorded, goes}
 use Rattle.history.specs.Claims.{SoundIsKept}
@@ -64,6 +65,20 @@ restored_n : (s : LockState) (e : Entry) → (restored s e).n ≡ s.n
 unfolding restored put_back put_row put_tail
 restored_n s e = refl
 
+-- ---- the lock's answer to a step or a raise
+
+-- on a sound state the lock's two events are one
+pub happens_carried : (s : LockState) → Whole s → (event p : ℕ) → happens s event p ≡ carried s event p
+unfolding happens
+happens_carried s w event p = ap (λ b. cond (not b) (Lock.refused 11 s) (carried s event p)) w.fit
+
+-- where it is accepted
+pub taken_below : (s : LockState) (event p : ℕ) → (carried s event p).refusal ≡ 0 → p < s.n
+taken_below s event p =
+    by_test (λ (a : Answer). a.refusal ≡ 0 → p < s.n) (not (is_step event || is_raise event)) (λ _ z. absurd (omega arith))
+    (λ _.
+    by_test (λ (a : Answer). a.refusal ≡ 0 → p < s.n) (leb s.n p) (λ _ z. absurd (omega arith)) (λ t _. leb-false s.n p t))
+
 module _ (h : History) (w : Whole h.lock) (fits : in_range h.journal ≡ true) where
   back_kept : (p : ℕ) (e : Entry) → Keeps h (stepped_back h p e)
   unfolding stepped_back brings_back
@@ -90,22 +105,10 @@ module _ (h : History) (w : Whole h.lock) (fits : in_range h.journal ≡ true) w
 
   -- ---- a step or a raise
 
-  -- the lock's answer to it, where it is accepted
-  taken_below : (event p : ℕ) → (carried h.lock event p).refusal ≡ 0 → p < h.lock.n
-  taken_below event p =
-      by_test (λ (a : Answer). a.refusal ≡ 0 → p < h.lock.n) (not (is_step event || is_raise event)) (λ _ z. absurd (omega arith))
-      (λ _.
-      by_test (λ (a : Answer). a.refusal ≡ 0 → p < h.lock.n) (leb h.lock.n p) (λ _ z. absurd (omega arith))
-      (λ t _. leb-false h.lock.n p t))
-
-  same_answer : (event p : ℕ) → happens h.lock event p ≡ carried h.lock event p
-  unfolding happens
-  same_answer event p = ap (λ b. cond (not b) (Lock.refused 11 h.lock) (carried h.lock event p)) w.fit
-
   event_size : (event p : ℕ) → (carried h.lock event p).state.n ≡ h.lock.n
   unfolding after
   event_size event p =
-      ap (λ (a : Answer). a.state.n) (sym (same_answer event p))
+      ap (λ (a : Answer). a.state.n) (sym (happens_carried h.lock w event p))
       ∙ (one_event_touches h.lock (record { event = event; processor = p })).n
 
   record_kept : (event p : ℕ) → Keeps h (recorded h p (carried h.lock event p))
@@ -114,23 +117,19 @@ module _ (h : History) (w : Whole h.lock) (fits : in_range h.journal ≡ true) w
       let a = carried h.lock event p in
       by_test (Keeps h) (eqb a.refusal 0)
       (λ t _. record {
-        whole = rw (← same_answer event p) (Lower.event_kept h.lock event p w);
+        whole = rw (← happens_carried h.lock w event p) (Lower.event_kept h.lock event p w);
         size = event_size event p;
-        below = taken_below event p (eqb-true a.refusal 0 t);
+        below = taken_below h.lock event p (eqb-true a.refusal 0 t);
         fits = pushed_fits h.journal (entry_of h.lock p) fits;
       })
       (λ t z. absurd (eqb-false a.refusal 0 t z))
-
-pub not_not : (b : Bool) → not b ≡ false → b ≡ true
-not_not true e = refl
-not_not false e = sym e
 
 pub event_kept : (h : History) (event p : ℕ) → Whole h.lock → Keeps h (goes h event p)
 unfolding goes is_whole
 event_kept h event p w =
     by_test (Keeps h) (not (is_whole h)) (λ _ z. absurd (omega arith))
     (λ t.
-    let fits = and_right (sound h.lock) (in_range h.journal) (not_not (is_whole h) t) in
+    let fits = and_right (sound h.lock) (in_range h.journal) (not-false (is_whole h) t) in
     by_test (Keeps h) (is_undo event) (λ _. undo_kept h w fits p) (λ _. record_kept h w fits event p))
 
 -- 11 comes first, so an accepted event had a whole history
@@ -138,7 +137,7 @@ pub accepted_whole : (h : History) (event p : ℕ) → (goes h event p).refusal 
 unfolding goes
 accepted_whole h event p =
     by_test (λ (o : Outcome). o.refusal ≡ 0 → is_whole h ≡ true) (not (is_whole h)) (λ _ z. absurd (omega arith))
-    (λ t _. not_not (is_whole h) t)
+    (λ t _. not-false (is_whole h) t)
 
 pub sound_is_kept : SoundIsKept
 unfolding is_whole

@@ -1,4 +1,5 @@
--- The history's proofs, from the bottom up. Beside these rooms, each function of src/ that needs one has a folder with its proof.
+-- The history's proofs, from the bottom up. No function of src/ has a folder beside these rooms: the check finds the proof, and those of
+-- `claims` and `laws` by the lemma that each of them names.
 --     AnyState      the theorem of the survivors, over any state
 --     Keeping       soundness is kept
 --     Following     the lock's state as such a layer; a history that follows a pile
@@ -6,6 +7,7 @@
 --     Claimed       the claims
 --     Naming        whose row is shown
 --     Computed      the P cases and the worked schedules
+--     Single        only one answer fits
 pub mod AnyState
 pub mod Keeping
 pub mod Following
@@ -13,3 +15,4 @@ pub mod Turning
 pub mod Claimed
 pub mod Naming
 pub mod Computed
+pub mod Single

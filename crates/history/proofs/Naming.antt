@@ -4,7 +4,7 @@
 --     names                an accepted answer, by the tests of an event in their order
 --     names_the_undone     the claim
 use Rattle.std.proofs.Common.{◌≡◌, ℕ, zero, suc, ◌%◌, true, false, cond, not, ◌&&◌, eqb, List, [], ◌∷◌, ◌++◌, length, get_or, sym, refl, ap, ◌∙◌, arith}
-use borrow.Author.Tests.{eqb-false}
+use Rattle.std.proofs.lemmas.Bool.{eqb-false, not-false}
 use Rattle.choice.proofs.Tests.{by_test}
 use Rattle.lock.specs.declared.LockState.{LockState}
 use Rattle.lock.specs.Event.{Answer}
@@ -13,14 +13,13 @@ use Rattle.lock.specs.Event.{carried}
 use Rattle.lock.specs.Run.{Call}
 use Rattle.lock.proofs.Roof.Callers.{range_whole}
 use Rattle.history.specs.declared.History.{History}
-use Rattle.history.specs.declared.Outcome.{Outcome}
+use Rattle.history.specs.Event.{Outcome}
 use Rattle.history.specs.Journal.{most, previous, empty_entry, entry_of, newest}
 use Rattle.history.specs.Event.{unwritten, is_undo, is_whole, brings_back, stepped_back, undone, recorded, goes}
 use Rattle.history.specs.Survivors.{Pile, nothing, oldest_first, takes_back, piled, survivors, last_of, walk}
 use Rattle.history.specs.Claims.{NamesTheUndone}
 use Rattle.history.proofs.AnyState as Any
 use Rattle.history.proofs.Following.{Follows, starts}
-use Rattle.history.proofs.Keeping.{not_not}
 use Rattle.history.proofs.Claimed.{walk_follows}
 
 last_append : (xs : List Call) (c : Call) → last_of (xs ++ (c ∷ [])) ≡ c.processor
@@ -59,7 +58,7 @@ module _ (s : LockState) (h : History) where
         by_test Names (brings_back h.lock (newest h.journal))
         (λ _ _.
         newest_is k.calls k.depth (sym (ap (λ m. eqb m 0) f.depth) ∙ d) f
-        ∙ sym (λ i. cond (u i && not_not (eqb c.processor 0) n i) undone_by c.processor))
+        ∙ sym (λ i. cond (u i && not-false (eqb c.processor 0) n i) undone_by c.processor))
         (λ _ z. absurd (omega arith))))
 
     event_names : (a : Answer) → is_undo c.event ≡ false → Names (recorded h c.processor a)

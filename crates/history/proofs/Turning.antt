@@ -3,14 +3,14 @@
 --     popped_then, pushed_then     what becomes of the journal is what an undo, or another event, makes of it
 --     goes_turned                  the answer, put together from its parts
 use Rattle.std.proofs.Common.{◌≡◌, ℕ, Bool, true, false, cond, not, eqb, get_or, set, sym, refl, ap, ◌∙◌, eqb-true}
-use lib.Seq.{set-get_or}
+use Rattle.std.proofs.lemmas.List.{set-get_or}
 use Rattle.lock.specs.Event.{Answer}
 use Rattle.lock.specs.Event.{carried}
 use Rattle.history.specs.declared.Entry.{Entry}
 use Rattle.history.specs.declared.Journal.{Journal}
 use Rattle.history.specs.declared.History.{History}
-use Rattle.history.specs.declared.Outcome.{Outcome}
-use Rattle.history.specs.declared.apart.Move.{Move}
+use Rattle.history.specs.Event.{Outcome}
+use Rattle.history.specs.Apart.{Move}
 use Rattle.history.specs.Journal.{empty_entry, entry_of, restored, pushed, newest, popped, next, previous, deeper, shallower}
 use Rattle.history.specs.Event.{accepted, refused, is_undo, stepped_back, undone, recorded, goes}
 use Rattle.history.specs.Apart.{moved_back, moved_on, moved, slot_then, top_then, depth_then, journal_then}

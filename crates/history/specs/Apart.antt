@@ -1,17 +1,30 @@
 -- The words for a loop that keeps the lock's state and the journal apart, so that no call copies the journal: what an event makes of
 -- the state, and of the journal's slot, position and depth. That this is the event is proved in proofs/Turning.
-use Rattle.std.specs.Prelude.{ℕ, cond, not, ◌==◌, slice_index_or, slice_set}
+use Rattle.std.specs.Prelude.{ℕ, cond, not, ◌==◌, slice_index_or, slice_set, Result, Ok, Err}
 use Rattle.lock.specs.declared.LockState.{LockState}
 use Rattle.lock.specs.Event.{Answer}
 use Rattle.lock.specs.Event.{carried}
 use Rattle.history.specs.declared.Entry.{Entry}
 use Rattle.history.specs.declared.Journal.{Journal}
-use Rattle.history.specs.declared.apart.Move.{Move}
+use Rattle.history.specs.declared.Moved.{Moved}
+use Rattle.history.specs.declared.Refusal.{Refusal}
 use Rattle.history.specs.Journal.{empty_entry, restored, deeper, shallower, next, previous}
+use Rattle.history.specs.Named.{refusal_number}
 use Rattle.history.specs.Event.{is_undo}
+
+-- What an event makes of the lock's state: its refusal, 0 for accepted; the processor whose row an 03 line shows; the state.
+pub record Move : Type 0 where
+  pub refusal : ℕ
+  pub processor : ℕ
+  pub lock : LockState
 
 abbrev pub stays : ℕ → ℕ → LockState → Move
 stays number p s = record { refusal = number; processor = p; lock = s }
+
+-- What the code's answer says, to an event on the state s with the byte p. A refusal leaves s as it is.
+abbrev pub told : LockState → ℕ → Result (Moved LockState) Refusal → Move
+told s p (Ok m) = record { refusal = 0; processor = m.processor; lock = m.state }
+told s p (Err r) = stays (refusal_number r) p s
 
 -- an undo: 9, then 14, then the way back over the newest entry
 unfoldable pub moved_back : LockState → ℕ → Entry → ℕ → Move

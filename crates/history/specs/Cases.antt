@@ -10,7 +10,7 @@ use Rattle.lock.specs.State.{processors, none, guarded, RP, Preempted, row}
 use Rattle.lock.specs.Run.{Call}
 use Rattle.lock.specs.Cases.{step, raise, steps}
 use Rattle.history.specs.declared.History.{History}
-use Rattle.history.specs.declared.Outcome.{Outcome}
+use Rattle.history.specs.Event.{Outcome}
 use Rattle.history.specs.Event.{begun, goes}
 use Rattle.history.specs.Survivors.{afterward, walk}
 

@@ -1,6 +1,7 @@
 -- What is claimed of request [6], as types; the proofs stand in proofs/. A schedule is any list of calls, undos and refused ones among
--- them; e is the edition, n is N. In order: the request's sentence; whose row is shown; a schedule without undos; the one step by which whatever holds of
--- every run holds of the events not undone, and demand 3 by that step; soundness is kept; what a caller of the library holds.
+-- them; e is the edition, n is N. In order: the request's sentence; whose row is shown; a schedule without undos; the one step by which
+-- whatever holds of every run holds of the events not undone, and demand 3 by that step; soundness is kept; what a caller of the library
+-- holds.
 use Rattle.std.specs.Prelude.{◌≡◌, ℕ, suc, ◌-◌, ◌<◌, ◌≤◌, Bool, true, not, ◌&&◌, ◌≢◌, List, [], ◌∷◌, ◌++◌, length}
 use Rattle.lock.specs.declared.LockState.{LockState}
 use Rattle.lock.specs.State.{processors, fresh_state}
@@ -8,7 +9,7 @@ use Rattle.lock.specs.Run.{Call, enters, is_inside}
 use Rattle.lock.specs.Count.{entries_in, all_entries_in, latest_join}
 use Rattle.lock.specs.Claims.{reached, AnyEdition, waited, Waits, LastJoin}
 use Rattle.history.specs.declared.History.{History}
-use Rattle.history.specs.declared.Outcome.{Outcome}
+use Rattle.history.specs.Event.{Outcome}
 use Rattle.history.specs.Event.{unwritten, begun, is_undo, is_whole, goes}
 use Rattle.history.specs.Survivors.{survivors, who_in, walk}
 
@@ -120,7 +121,8 @@ SoundIsKept =
 -- ---- from the claims to the code
 
 -- What a caller of the library holds after some calls: `History::fresh` gave the first state and refused nothing; each further state
--- is in what `event` answered on the one before. What the two answer is said by their contracts, `begun` and `goes`.
+-- is in what `event` answered on the one before. What the two answer, told by cases (`told_begun`, `told`), is said by their contracts:
+-- `begun` and `goes`.
 pub data Held (e n : ℕ) : List Call → History → Type 0 where
   made : (o : Outcome) → o ≡ begun e n → o.refusal ≡ 0 → Held e n [] o.state
   answered : (calls : List Call) (h : History) (c : Call) (o : Outcome)

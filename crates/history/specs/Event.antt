@@ -1,7 +1,7 @@
 -- Request [6]: an event on a state with its journal. "8 is now given for events other than 1, 2, 3; 9 also for an undo whose byte
 -- isn't 0 ..; 11, first as before, also for a journal whose own numbers are out of range; 14, nothing left to undo, after 9; then 11
 -- again, where a handed-in journal would bring back an unsound state." So the order for an undo is 11, 8, 9, 14, 11.
-use Rattle.std.specs.Prelude.{ℕ, Bool, cond, not, ◌&&◌, ◌==◌, nat_lt}
+use Rattle.std.specs.Prelude.{ℕ, Bool, cond, not, ◌&&◌, ◌==◌, nat_lt, Result, Ok, Err}
 use Rattle.lock.specs.declared.LockState.{LockState}
 use Rattle.lock.specs.Event.{Answer}
 use Rattle.lock.specs.Sound.{sound}
@@ -9,8 +9,17 @@ use Rattle.lock.specs.Event.{fresh, carried}
 use Rattle.history.specs.declared.Entry.{Entry}
 use Rattle.history.specs.declared.Journal.{Journal}
 use Rattle.history.specs.declared.History.{History}
-use Rattle.history.specs.declared.Outcome.{Outcome}
+use Rattle.history.specs.declared.Moved.{Moved}
+use Rattle.history.specs.declared.Refused.{Refused}
 use Rattle.history.specs.Journal.{empty_journal, entry_of, restored, in_range, pushed, newest, popped}
+use Rattle.history.specs.Named.{refusal_number}
+
+-- What making the fresh state or an event answers: the refusal's number, 0 for accepted; the processor whose row an 03 line shows; and
+-- the state.
+pub record Outcome : Type 0 where
+  pub refusal : ℕ
+  pub processor : ℕ
+  pub state : History
 
 -- accepted: the processor whose row the 03 line shows, and the state with its journal
 abbrev pub accepted : ℕ → LockState → Journal → Outcome
@@ -19,6 +28,16 @@ accepted p s j = record { refusal = 0; processor = p; state = record { lock = s;
 -- refused: the same state back, with the byte that was given
 abbrev pub refused : ℕ → ℕ → History → Outcome
 refused number p h = record { refusal = number; processor = p; state = h }
+
+-- "a definition gives this paper's number and values for each of its cases": what the code's answer to an event with the byte p says
+abbrev pub told : ℕ → Result (Moved History) Refused → Outcome
+told p (Ok m) = accepted m.processor m.state.lock m.state.journal
+told p (Err r) = refused (refusal_number r.refusal) p r.state
+
+-- and its answer where the fresh state is made, which shows no row
+abbrev pub told_begun : Result History Refused → Outcome
+told_begun (Ok h) = accepted 0 h.lock h.journal
+told_begun (Err r) = refused (refusal_number r.refusal) 0 r.state
 
 -- a lock with nothing to undo
 abbrev pub unwritten : LockState → History

@@ -1,19 +1,26 @@
 // The lock with a journal of its last 256 events, and the way back: request [6]. The lock itself is crate `lock`, which knows nothing of
-// it. Here are the types; `ring` has the journal's own moves, `event` the events, `apart` the same for a loop that keeps state and
-// journal apart. `claims` and `laws` promise what is proved of them.
+// it. Here are the types and their numbers; `ring` has the journal's own moves, `events` the events, `apart` the same for a loop that
+// keeps state and journal apart. `claims` and `laws` promise what is proved of them.
 #![tactic(auto)]
+
+ghost use Rattle.std.specs.Prelude.{◌≡◌};
+ghost use Rattle.history.specs.Named.{event_number, refusal_number, of_lock, NamesEvent};
 
 use lock::{LockState, Row};
 
 pub mod apart;
 pub mod claims;
-mod event;
+mod events;
 pub mod laws;
 mod ring;
 mod told;
 
-// What an event can change, as it was before the event: the row of its processor, that of one neighbour, and L.
-#[derive(Clone, Copy)]
+// The journal's room as an array's length.
+const ROOM: usize = Journal::MOST as usize;
+
+// What an event can change, as it was before the event: the row of its processor, that of one neighbour, and L. Two
+// pairs of a processor and its row, which stay apart: `entry_of`, `restored` and StepBackIsSharp name the four.
+#[derive(Clone, Copy, Debug, PartialEq, Eq)]
 pub struct Entry {
     pub processor: u8,
     pub own: Row,
@@ -23,35 +30,92 @@ pub struct Entry {
 }
 
 // A ring: the next entry goes to `top`, and `depth` entries before it can be undone.
-#[derive(Clone, Copy)]
+#[derive(Clone, Copy, Debug, PartialEq, Eq)]
 pub struct Journal {
-    pub entries: [Entry; 256],
+    pub entries: [Entry; ROOM],
     pub top: u8,
     pub depth: u16,
 }
 
 // One value that holds the lock's state and the journal.
-#[derive(Clone, Copy)]
+#[derive(Clone, Copy, Debug, PartialEq, Eq)]
 pub struct History {
     pub lock: LockState,
     pub journal: Journal,
 }
 
-// What making the fresh state or an event answers: the refusal's number, 0 for accepted; the processor whose row an 03 line shows; and
-// the state.
-#[derive(Clone, Copy)]
-pub struct Outcome {
-    pub refusal: u8,
+// The events: the lock's two, and the one that takes one back.
+#[derive(Clone, Copy, Debug, PartialEq, Eq)]
+pub enum Event {
+    Lock(lock::Event),
+    Undo,
+}
+
+// Why making the fresh state or an event is refused: for the lock's reasons, or because nothing is left to undo.
+#[derive(Clone, Copy, Debug, PartialEq, Eq)]
+pub enum Refusal {
+    Lock(lock::Refusal),
+    NothingLeft,
+}
+
+// An accepted event: the processor whose row an 03 line shows, and the state after it.
+#[derive(Clone, Copy, Debug, PartialEq, Eq)]
+pub struct Moved<S> {
     pub processor: u8,
+    pub state: S,
+}
+
+// A refusal, with the same state back; beside a fresh state's stands the filler.
+#[derive(Clone, Copy, Debug, PartialEq, Eq)]
+pub struct Refused {
+    pub refusal: Refusal,
     pub state: History,
+}
+
+impl From<Event> for u8 {
+    ghost from_gives = { λ event number. number ≡ event_number event };
+
+    fn from(event: Event) -> u8 {
+        match event {
+            Event::Lock(event) => u8::from(event),
+            Event::Undo => 3,
+        }
+    }
+}
+
+impl TryFrom<u8> for Event {
+    type Error = Refusal;
+
+    ghost try_from_gives = { NamesEvent };
+
+    fn try_from(number: u8) -> Result<Event, Refusal> {
+        match number {
+            3 => Ok(Event::Undo),
+            _ => Ok(Event::Lock(lock::Event::try_from(number)?)),
+        }
+    }
+}
+
+impl From<lock::Refusal> for Refusal {
+    ghost from_gives = { λ refusal given. given ≡ of_lock refusal };
+
+    fn from(refusal: lock::Refusal) -> Refusal {
+        Refusal::Lock(refusal)
+    }
+}
+
+impl From<Refusal> for u8 {
+    ghost from_gives = { λ refusal number. number ≡ refusal_number refusal };
+
+    fn from(refusal: Refusal) -> u8 {
+        match refusal {
+            Refusal::Lock(refusal) => u8::from(refusal),
+            Refusal::NothingLeft => 14,
+        }
+    }
 }
 
 impl Journal {
     // How many events can be undone at most.
     pub const MOST: u16 = 256;
-}
-
-impl History {
-    // The event that takes one back, beside the lock's two.
-    pub const UNDO: u8 = 3;
 }

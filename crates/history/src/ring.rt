@@ -1,25 +1,26 @@
 // The journal's own moves: an entry made, pushed, looked at and taken off.
-ghost use Rattle.std.specs.Prelude.{◌≡◌};
+ghost use Rattle.std.specs.Prelude.{◌≡◌, Some, None, cond};
 ghost use Rattle.lock.specs.Touched.{neighbour_of};
-ghost use Rattle.history.specs.Journal.{empty_row, empty_entry, empty_journal, entry_of, restored, in_range, pushed, newest, popped};
+ghost use Rattle.history.specs.Journal.{empty_row, empty_entry, empty_journal, entry_of, restored, in_range, next, previous, deeper, shallower, pushed, newest, popped};
+ghost use Rattle.history.specs.Event.{brings_back};
 
-use crate::{Entry, Journal};
+use crate::{Entry, Journal, ROOM};
 use lock::{LockState, Row};
 
-// The row beside its own that a step at p's place may write: pred's at link and claim, succ's where one hands on.
+// The row beside its own that a step at p's place may write: pred's at link and claim, succ's where one hands on. A row's place is a
+// byte for the theorems' sake, so its numbers stand here; the names that lock has for them are its own.
 #[tactic(auto, unfolding(lock::specs::Touched::neighbour_of))]
 fn neighbour_of(r: Row, p: u8) -> u8
     ensures { result ≡ neighbour_of r p }
 {
-    let k = r.place;
-    let back = (5 <= k) & (k <= 6);
-    if back {
-        return r.pred;
+    match r.place {
+        5..=6 => r.pred,
+        17..=22 | 27 => r.succ,
+        _ => p,
     }
-    let on = ((17 <= k) & (k <= 22)) | (k == 27);
-    if on { r.succ } else { p }
 }
 
+// Every number 0, which is no row that lock makes, so no `Default` of its `Row`.
 fn empty_row() -> Row
     ensures { result ≡ empty_row }
 {
@@ -36,16 +37,15 @@ fn empty_row() -> Row
 }
 
 impl Entry {
-    // Nothing written yet.
+    // Nothing written yet. `empty` is request [6]'s word and the definition's; a `Default` would say it again.
     pub fn empty() -> Entry
         ensures { result ≡ empty_entry }
     {
-        let row = empty_row();
         Entry {
             processor: 0,
-            own: row,
+            own: empty_row(),
             neighbour: 0,
-            other: row,
+            other: empty_row(),
             tail: 0,
         }
     }
@@ -57,12 +57,11 @@ impl Entry {
     {
         let own = s.row(p);
         let neighbour = neighbour_of(own, p);
-        let other = s.row(neighbour);
         Entry {
             processor: p,
             own,
             neighbour,
-            other,
+            other: s.row(neighbour),
             tail: s.tail,
         }
     }
@@ -72,12 +71,53 @@ impl Entry {
     pub(crate) fn restored(self, s: LockState) -> LockState
         ensures { result ≡ restored s self }
     {
-        let own = self.own;
-        let other = self.other;
-        s.put_row(self.processor, own)
-            .put_row(self.neighbour, other)
+        s.put_row(self.processor, self.own)
+            .put_row(self.neighbour, self.other)
             .put_tail(self.tail)
     }
+
+    // The same for an entry of which nothing is known: none where its numbers are no processors, or the state is not sound.
+    #[tactic(auto, unfolding(crate::specs::Event::brings_back))]
+    pub(crate) fn brought_back(self, s: LockState) -> Option<LockState>
+        ensures { result ≡ cond (brings_back s self) (Some (restored s self)) None }
+    {
+        let back = self.restored(s);
+        if self.processor < s.n && self.neighbour < s.n && back.is_sound() {
+            Some(back)
+        } else {
+            None
+        }
+    }
+}
+
+// The ring's numbers: the slot after one, and the slot before.
+pub(crate) fn next(at: u8) -> u8
+    ensures { result ≡ next at }
+{
+    at.wrapping_add(1)
+}
+
+pub(crate) fn previous(at: u8) -> u8
+    ensures { result ≡ previous at }
+{
+    at.wrapping_sub(1)
+}
+
+// One entry can be undone more, up to all of them; and one less.
+pub(crate) fn deeper(depth: u16) -> u16
+    ensures { result ≡ deeper depth }
+{
+    if depth < Journal::MOST {
+        depth + 1
+    } else {
+        depth
+    }
+}
+
+pub(crate) fn shallower(depth: u16) -> u16
+    ensures { result ≡ shallower depth }
+{
+    depth.saturating_sub(1)
 }
 
 impl Journal {
@@ -86,9 +126,8 @@ impl Journal {
     pub fn empty() -> Journal
         ensures { result ≡ empty_journal }
     {
-        let entry = Entry::empty();
         Journal {
-            entries: [entry; 256],
+            entries: [Entry::empty(); ROOM],
             top: 0,
             depth: 0,
         }
@@ -99,40 +138,37 @@ impl Journal {
     pub(crate) fn in_range(self) -> bool
         ensures { result ≡ in_range self }
     {
-        ((self.top as u16) < Journal::MOST) & (self.depth <= Journal::MOST)
+        self.depth <= Journal::MOST
     }
 
     #[tactic(auto, unfolding(crate::specs::Journal::pushed))]
     pub(crate) fn pushed(self, e: Entry) -> Journal
         ensures { result ≡ pushed self e }
     {
-        let mut j = self;
-        let top = self.top;
-        j.entries[top as usize] = e;
-        j.top = std::num::wrapping_add_u8(top, 1);
-        if self.depth < Journal::MOST {
-            j.depth = self.depth + 1;
+        let mut entries = self.entries;
+        entries[self.top as usize] = e;
+        Journal {
+            entries,
+            top: next(self.top),
+            depth: deeper(self.depth),
         }
-        j
     }
 
     #[tactic(auto, unfolding(crate::specs::Journal::newest))]
     pub(crate) fn newest(self) -> Entry
         ensures { result ≡ newest self }
     {
-        let last = std::num::wrapping_add_u8(self.top, 255);
-        self.entries[last as usize]
+        self.entries[previous(self.top) as usize]
     }
 
     #[tactic(auto, unfolding(crate::specs::Journal::popped))]
     pub(crate) fn popped(self) -> Journal
         ensures { result ≡ popped self }
     {
-        let mut j = self;
-        j.top = std::num::wrapping_add_u8(self.top, 255);
-        if 0 < self.depth {
-            j.depth = self.depth - 1;
+        Journal {
+            top: previous(self.top),
+            depth: shallower(self.depth),
+            ..self
         }
-        j
     }
 }

@@ -11,23 +11,24 @@ fn main(rt: HostRuntime) {
     let n = read_full(&mut rt.stdin(), &mut schedule);
     // Room for the log of 6,001 lines.
     let mut log = [0u8; 102028];
-    let logged = bench::bench(&schedule[..n], &mut log);
-    let length = logged.length;
+    let Ok(length) = bench::bench(&schedule[..n], &mut log) else {
+        return;
+    };
     // A log that cannot be written is cut short, which its reader sees by its last line.
     let _ = rt.write_all(&log[..length]);
 }
 
-// Reads until the buffer is full, the input ends or a read fails; answers how many bytes it put at the buffer's start.
+// Reads until the buffer is full, the input ends or a read fails; answers how many bytes it put at the buffer's start. A function of
+// the program: std's `read_exact` does not say how many there were, `read_to_end` takes a heap, and `io::copy` goes on where a
+// signal broke a read off.
 fn read_full<R: Read>(input: &mut R, buffer: &mut [u8]) -> usize
     ensures { result ≤ length buffer.new }
 {
     let mut done = 0;
-    while done < buffer.len() {
-        let got = input.read(&mut buffer[done..]).unwrap_or(0);
-        if got == 0 {
-            break;
-        }
-        done += got;
+    while done < buffer.len()
+        && let Ok(n @ 1..) = input.read(&mut buffer[done..])
+    {
+        done += n;
     }
     done
 }

@@ -2,18 +2,20 @@
 --     fits, sum                     two rows at a place: their sum is a count; their sum
 --     rows_fit, rows_sum            two tables at a row, likewise
 --     sum_fits, row_fits            where every sum is a count, each is
+--     added_stays                   counts that are refused leave the table as it was
 --     same_test, same_sums          row by row is the same as cell by cell
 -- Assumes nothing.
 use Prim.Native.Nat.{ℕ, ◌+◌, ◌≤◌, ◌<◌}
-use mathlib.Core.Path.{◌≡◌, refl}
-use mathlib.Core.Bool.{Bool, true}
+use mathlib.Core.Path.{◌≡◌, refl, sym, ap, ◌∙◌}
+use mathlib.Core.Bool.{Bool, true, false, cond}
 use mathlib.Core.List.{List, []}
 use lib.ListN.{get_or}
-use lib.Dec.{leb}
+use lib.Dec.{eqb, leb}
 use borrow.Author.Tests.{leb-true}
 use Rattle.lock.specs.State.{processors}
 use Rattle.choice.proofs.Numbers.{every_at}
-use Rattle.report.specs.Table.{greatest, cell, holds, raised, row_holds, row_sum, table_holds, table_sum}
+use Rattle.choice.proofs.Tests.{clash}
+use Rattle.report.specs.Table.{Reported, Counts, greatest, cell, holds, raised, counts_added, row_holds, row_sum, table_holds, table_sum}
 
 module _ (t m : List ℕ) where
   abbrev pub sum : ℕ → ℕ
@@ -44,3 +46,16 @@ module _ (t m : List (List ℕ)) where
   pub same_sums : table_sum t m ≡ raised t (cell m)
   unfolding table_sum row_sum raised cell
   same_sums = refl
+
+abbrev added_as : List (List ℕ) → Counts → Bool → Reported
+added_as t f b = cond b (record { refusal = 0; line = 0; table = raised t f }) (record { refusal = 12; line = 0; table = t })
+
+-- counts that are refused leave the table as it was
+pub added_stays : (t : List (List ℕ)) (f : Counts) (r : Reported) → r ≡ counts_added t f → eqb r.refusal 0 ≡ false
+    → (counts_added t f).table ≡ t
+unfolding counts_added
+added_stays t f r e some = stays (holds t f) (ap (λ (x : Reported). eqb x.refusal 0) (sym e) ∙ some)
+  where
+    stays : (b : Bool) → eqb (added_as t f b).refusal 0 ≡ false → (added_as t f b).table ≡ t
+    stays true h = clash refl h
+    stays false h = refl

@@ -4,18 +4,20 @@
 --     low, fit        then its processor has an account, and there is room in the accounts
 --     changed, quiet  the accounts after its call
 --     goes_on         an event that is accepted: the loop stands one line further
+--     agrees, disagrees    the answer at the end of the text, and at a line that is refused
 --     stops, ends     a line that is refused, and the end of the text: all that is asked is known
 -- Assumes nothing.
 use Prim.Native.Nat.{ℕ, ◌+◌, ◌*◌, ◌≤◌, ◌<◌}
 use native.Mathlib.Omega.{arith}
 use mathlib.Core.Path.{◌≡◌, refl, sym, ap, ◌∙◌, subst}
+use Rattle.std.specs.Prelude.{Err}
 use mathlib.Core.Logic.{⊎_elim}
 use mathlib.Core.Bool.{Bool, true, false, cond, not, ◌||◌}
 use mathlib.Core.List.{List, [], ◌∷◌, ◌++◌, append_assoc, append-nil}
 use lib.ListN.{length, drop, replicate, length-append, length-drop}
 use lib.Seq.{drop-drop}
 use lib.Dec.{eqb, leb}
-use borrow.Author.Tests.{leb-false}
+use borrow.Author.Tests.{eq-eqb, leb-false}
 use Rattle.choice.proofs.Tests.{cases, clash}
 use Rattle.lock.specs.declared.LockState.{LockState}
 use Rattle.lock.specs.Event.{Answer}
@@ -28,6 +30,7 @@ use Rattle.lock.specs.Count.{count_in, entries_in, interrupts_in, joins_in, late
 use Rattle.lock.proofs.Keeping.Parts.{row_room}
 use Rattle.lock.proofs.Waiting.Demand.{run_last}
 use Rattle.frame.specs.Reading.{rest_of}
+use Rattle.bench.specs.Named.{number}
 use Rattle.bench.specs.Log.{longest}
 use Rattle.bench.specs.Bridge.{call_of, line_refusal}
 use Rattle.bench.specs.Verdict.{later_verdict}
@@ -35,11 +38,12 @@ use Rattle.bench.proofs.Sound.{happens_whole}
 use Rattle.bench.proofs.Heard.{heard_on, heard_stops, heard_end}
 use Rattle.report.specs.declared.counting.Did.{Did}
 use Rattle.report.specs.declared.counting.Account.{Account}
-use Rattle.report.specs.declared.following.Followed.{Followed}
+use Rattle.report.specs.Followed.{Followed}
 use Rattle.report.specs.Charges.{charges_from}
 use Rattle.report.specs.Table.{upto}
 use Rattle.report.specs.Accounts.{account_of, accounts_of, no_account, did_by, noted_by, AllFit}
-use Rattle.report.specs.Followed.{later_heard, followed_as, followed_of}
+use Rattle.report.specs.declared.following.Stopped.{Stopped}
+use Rattle.report.specs.Followed.{told, later_heard, followed_as, followed_of, Agrees}
 use Rattle.report.proofs.Accounting.{Nothing, did, accounts_after, accounts_quiet, accounts_fit}
 
 -- an accepted call is of a processor below N
@@ -117,6 +121,24 @@ module _ (text : List ℕ) (first : LockState) (rest : List ℕ) (s : LockState)
         ∙ ap (λ (r : ℕ). followed_as first i.calls (later_verdict r accepted)) is
         ∙ simp e)
 
+-- what is answered where the text ends, and where a line is refused
+pub agrees : (f g : Followed) → f ≡ g → Agrees f g
+agrees f g e = record {
+  refusal = ap (λ (x : Followed). x.refusal) e;
+  line = ap (λ (x : Followed). x.line) e;
+  n = λ z. ap (λ (x : Followed). x.n) e;
+  accounts = λ z. ap (λ (x : Followed). x.accounts) e;
+}
+
+pub disagrees : (d : Stopped) (f g : Followed) → f ≡ g → number d.refusal ≡ f.refusal → d.line ≡ f.line
+    → eqb (number d.refusal) 0 ≡ false → Agrees (told (Err d)) g
+disagrees d f g e r l some = record {
+  refusal = r ∙ ap (λ (x : Followed). x.refusal) e;
+  line = l ∙ ap (λ (x : Followed). x.line) e;
+  n = λ z. clash (eq-eqb g.refusal 0 z) (ap (λ (k : ℕ). eqb k 0) (sym (r ∙ ap (λ (x : Followed). x.refusal) e)) ∙ some);
+  accounts = λ z. clash (eq-eqb g.refusal 0 z) (ap (λ (k : ℕ). eqb k 0) (sym (r ∙ ap (λ (x : Followed). x.refusal) e)) ∙ some);
+}
+
 -- the line asks for an event of p, and a is the answer, by which it is accepted
 pub record Taken (text : List ℕ) (first : LockState) (rest : List ℕ) (s : LockState) (accounts : List Account) (accepted event p : ℕ)
     (a : Answer) : Type 0 where
@@ -158,20 +180,20 @@ module _ {text : List ℕ} {first : LockState} {rest : List ℕ} {s : LockState}
 
   -- what the call was, by the places that the code has seen
   module _ (d : Did) (e : d ≡ did_by event (row s p).place (row a.state p).place) where
-    told : d ≡ did (run first i.calls) call run_taken
-    told =
+    did_is : d ≡ did (run first i.calls) call run_taken
+    did_is =
         e ∙ ap (λ (t : LockState). did_by event (row t p).place (row a.state p).place) i.state_is
         ∙ ap (λ (t : LockState). did_by event (row (run first i.calls) p).place (row t p).place) state_after
 
     pub changed : (then : List Account) → then ≡ noted_by accounts p d → then ≡ accounts_of first (i.calls ++ call ∷ [])
     changed then f =
         f ∙ ap (λ (x : List Account). noted_by x p d) i.accounts_are
-        ∙ ap (noted_by (accounts_of first i.calls) p) told
+        ∙ ap (noted_by (accounts_of first i.calls) p) did_is
         ∙ sym (accounts_after first i.calls call run_taken low)
 
     pub quiet : Nothing d → accounts ≡ accounts_of first (i.calls ++ call ∷ [])
     quiet none =
-        i.accounts_are ∙ sym (accounts_quiet first i.calls call run_taken low (subst Nothing told none))
+        i.accounts_are ∙ sym (accounts_quiet first i.calls call run_taken low (subst Nothing did_is none))
 
   pub goes_on : (then : List Account) → then ≡ accounts_of first (i.calls ++ call ∷ []) → (later : List ℕ) →
       later ≡ rest_of rest → Along text first later a.state then (accepted + 1)

@@ -6,8 +6,11 @@
 --     Orders                  many schedules, in any order and in parts
 --     Measuring, Laying       the report of a schedule; the lent rows
 --     Witness                 the claims on schedules, computed
---     Seam                    rows while they are filled
 pub mod Upto
+pub mod Made
+pub mod Mapped
+pub mod Numbers
+pub mod Single
 pub mod Adding
 pub mod Charging
 pub mod Accounting
@@ -19,4 +22,3 @@ pub mod Orders
 pub mod Measuring
 pub mod Laying
 pub mod Witness
-pub mod Seam

@@ -5,7 +5,8 @@
 -- Assumes nothing.
 use Prim.Native.Nat.{ℕ, ◌+◌, ◌≤◌, ◌<◌}
 use native.Mathlib.Omega.{arith}
-use mathlib.Core.Path.{◌≡◌, sym, ap, ◌∙◌, subst}
+use mathlib.Core.Path.{◌≡◌, refl, sym, ap, ◌∙◌, subst}
+use Rattle.std.specs.Prelude.{Err}
 use mathlib.Core.Logic.{⊎_elim}
 use mathlib.Core.Bool.{Bool, true, false, cond}
 use mathlib.Core.List.{List, []}
@@ -22,13 +23,13 @@ use Rattle.bench.specs.Bridge.{processors_of, first_state, first_refusal, heard_
 use Rattle.bench.specs.Verdict.{verdict_of}
 use Rattle.bench.proofs.Hearing.{log_is_run}
 use Rattle.report.specs.declared.Tally.{Tally}
-use Rattle.report.specs.declared.Reported.{Reported}
-use Rattle.report.specs.declared.Measured.{Measured}
+use Rattle.report.specs.declared.Refused.{Refused}
 use Rattle.report.specs.declared.counting.Account.{Account}
-use Rattle.report.specs.declared.following.Followed.{Followed}
+use Rattle.report.specs.Followed.{Followed}
+use Rattle.report.specs.Named.{number}
 use Rattle.report.specs.Charges.{charges}
-use Rattle.report.specs.Table.{upto, greatest, Counts, cell, holds, raised, counts_added}
-use Rattle.report.specs.Report.{charges_of, tally_of, reported_of, unmeasured, laid_down, measured_as, measured_of}
+use Rattle.report.specs.Table.{Reported, told, upto, greatest, Counts, cell, holds, raised, counts_added}
+use Rattle.report.specs.Report.{Measured, told_measured, charges_of, tally_of, reported_of, unmeasured, laid_down, measured_as, measured_of}
 use Rattle.report.specs.Accounts.{account_of, accounts_of, absent, charges_row, charges_by, tallies_by}
 use Rattle.report.specs.Followed.{Follows}
 use Rattle.report.proofs.Upto.{upto_at, upto_same}
@@ -106,6 +107,16 @@ module _ (text : List ℕ) (table : List (List ℕ)) (lent : ℕ) (f : Followed)
       ∙ ap (λ (l : ℕ). record { refusal = (verdict_of text).refusal; line = l; table = table }) found.line
       ∙ simp not-zero)
       (ap (λ (x : Reported). eqb x.refusal 0) e ∙ some)
+
+  -- the same of the code's answer
+  pub own_refused : eqb f.refusal 0 ≡ false → (r : Refused) → number r.refusal ≡ f.refusal → r.line ≡ f.line → r.table ≡ table
+      → Ends (told_measured (Err r))
+  own_refused some r e l t =
+      own some (told (Err r))
+      (ap (λ (k : ℕ). record { refusal = k; line = r.line; table = r.table }) e
+      ∙ ap (λ (k : ℕ). record { refusal = f.refusal; line = k; table = r.table }) l
+      ∙ ap (λ (x : List (List ℕ)). record { refusal = f.refusal; line = f.line; table = x }) t)
+      (told_measured (Err r)) refl
 
   module _ (none : eqb f.refusal 0 ≡ true) where
     zero_told : (verdict_of text).refusal ≡ 0

@@ -2,6 +2,7 @@
 --     follows_long       a schedule that is too long
 --     follows_refused    line 1 is refused
 --     read_first, unread_first     line 1 as the reader answers it
+--     follows_alike      what agrees with it follows the schedule too
 --     first_told         what refuses line 1 once it is read
 --     first_made         the state from which the run begins, where nothing does
 --     follows_on         line 1 is accepted, and the later lines were gone along
@@ -26,8 +27,8 @@ use Rattle.bench.specs.Verdict.{Verdict, at, later_verdict, verdict_of}
 use Rattle.bench.proofs.Frames.{framed, refused_not_zero}
 use Rattle.bench.proofs.Hearing.{first_state_is}
 use Rattle.bench.proofs.Heard.{heard_fuel}
-use Rattle.report.specs.declared.following.Followed.{Followed}
-use Rattle.report.specs.Followed.{later_heard, followed_as, followed_of, Follows, LineOne}
+use Rattle.report.specs.Followed.{Followed}
+use Rattle.report.specs.Followed.{later_heard, followed_as, followed_of, Agrees, Follows, LineOne}
 
 module _ (text : List ℕ) (f : Followed) where
   -- what is refused has nothing more to show
@@ -83,6 +84,15 @@ module _ (text : List ℕ) (f : Followed) where
         n = λ z. ap (λ (x : Followed). x.n) whole;
         accounts = λ z. ap (λ (x : Followed). x.accounts) whole;
       }
+
+-- what agrees with it follows the schedule too
+pub follows_alike : (text : List ℕ) (f g : Followed) → Agrees f g → Follows text g → Follows text f
+follows_alike text f g a found = record {
+  refusal = a.refusal ∙ found.refusal;
+  line = a.line ∙ found.line;
+  n = λ z. a.n (found.refusal ∙ z) ∙ found.n z;
+  accounts = λ z. a.accounts (found.refusal ∙ z) ∙ found.accounts z;
+}
 
 pub first_told : (text : List ℕ) (e n : ℕ) → LineOne text e n → first_refusal text ≡ (fresh e n).refusal
 first_told text e n one =

@@ -18,8 +18,8 @@ use Rattle.choice.proofs.Tests.{clash, and_left, and_right}
 use Rattle.lock.specs.State.{processors}
 use Rattle.bench.specs.Bridge.{processors_of}
 use Rattle.bench.specs.Verdict.{verdict_of}
-use Rattle.report.specs.declared.Reported.{Reported}
-use Rattle.report.specs.declared.Measured.{Measured}
+use Rattle.report.specs.Table.{Reported}
+use Rattle.report.specs.Report.{Measured}
 use Rattle.report.specs.declared.Tally.{Tally}
 use Rattle.report.specs.Table.{upto, greatest, Counts, cell, holds, raised, counts_added, added_to}
 use Rattle.report.specs.Report.{charges_of, reported_of, unmeasured, laid_down, measured_of, rows_after}

@@ -2,9 +2,7 @@
 --     length_upto     it has n things
 --     upto_at         the one at place i is that of number i
 --     upto_same       two of them are one where their things are
---     upto_list       the things of a list, by their place
---     stored, whole   a list overwritten from its beginning: one store more; all stored
---     next, done      the same, of a list that is known to be so far
+--     upto_all        n things, each of which is that of its place
 --     set_upto        one thing replaced
 -- Assumes nothing.
 use Prim.Native.Nat.{ℕ, zero, suc, ◌+◌, ◌≤◌, ◌<◌}
@@ -54,20 +52,10 @@ module _ {A : Type 0} where
       ext_get_or d xs (upto (length xs) f) (sym (length_upto f (length xs)))
       (λ i l. h i l ∙ sym (upto_at f (length xs) i d l))
 
-  pub upto_list : (xs : List A) (d : A) → upto (length xs) (λ i. get_or xs i d) ≡ xs
-  upto_list xs d = sym (upto_is (λ i. get_or xs i d) xs d (λ i l. refl))
-
-  pub stored : (f : ℕ → A) (t : List A) (i : ℕ) (d : A) → i < length t
-      → set (upto i f ++ drop i t) i (f i) ≡ upto (i + 1) f ++ drop (i + 1) t
-  unfolding upto
-  stored f t i d h =
-      ap (λ (r : List A). set (upto i f ++ r) i (f i)) (drop-cons t i d h)
-      ∙ set_at (upto i f) (get_or t i d) (drop (suc i) t) (f i) i (length_upto f i)
-      ∙ sym (append_snoc (upto i f) (f i) (drop (suc i) t))
-      ∙ ap (λ (k : ℕ). upto k f ++ drop k t) (sym (add-one i))
-
-  pub whole : (f : ℕ → A) (t : List A) (n : ℕ) → length t ≤ n → upto n f ++ drop n t ≡ upto n f
-  whole f t n h = ap (λ (r : List A). upto n f ++ r) (drop_of_length-le t {i = n} h) ∙ append-nil (upto n f)
+  -- n things, each of which is that of its place
+  pub upto_all : (f : ℕ → A) (n : ℕ) (xs : List A) (d : A) → length xs ≡ n → ((i : ℕ) → i < n → get_or xs i d ≡ f i) → xs ≡ upto n f
+  upto_all f n xs d e h =
+      upto_is f xs d (λ i l. h i (subst (λ (k : ℕ). i < k) e l)) ∙ ap (λ (k : ℕ). upto k f) e
 
   pub set_upto :
       (f : ℕ → A) (n p : ℕ) (v : A) → p < n → set (upto n f) p v ≡ upto n (λ i. cond (eqb i p) v (f i))
@@ -87,13 +75,3 @@ module _ {A : Type 0} where
     where
       size : length (set (upto n f) p v) ≡ n
       size = length-set (upto n f) p v ∙ length_upto f n
-
-  -- a list t overwritten as far as place i: one store more, and all
-  pub next :
-      (f : ℕ → A) (t r : List A) (i : ℕ) (d : A) → i < length t → r ≡ upto i f ++ drop i t
-      → set r i (f i) ≡ upto (i + 1) f ++ drop (i + 1) t
-  next f t r i d h e = ap (λ (x : List A). set x i (f i)) e ∙ stored f t i d h
-
-  pub done :
-      (f : ℕ → A) (t r : List A) (i n : ℕ) → i ≡ n → length t ≤ n → r ≡ upto i f ++ drop i t → r ≡ upto n f
-  done f t r i n all h e = e ∙ ap (λ (k : ℕ). upto k f ++ drop k t) all ∙ whole f t n h

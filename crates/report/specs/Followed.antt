@@ -1,13 +1,28 @@
 -- What is known once a schedule was gone along: its verdict, N and the accounts, in the words of bench's Bridge.
-use Rattle.std.specs.Prelude.{ℕ, ◌*◌, ◌≤◌, ◌≡◌, true, List, length, drop}
+use Rattle.std.specs.Prelude.{ℕ, ◌*◌, ◌≤◌, ◌≡◌, true, List, [], Result, Ok, Err, length, drop}
 use Rattle.lock.specs.declared.LockState.{LockState}
 use Rattle.lock.specs.Run.{Call, run}
 use Rattle.frame.specs.Reading.{reads}
+use Rattle.bench.specs.Named.{number}
 use Rattle.bench.specs.Log.{longest}
 use Rattle.bench.specs.Bridge.{first_state, processors_of, edition_of, line_refusal, heard_from, heard_of}
 use Rattle.bench.specs.Verdict.{Verdict, later_verdict, verdict_of}
-use Rattle.report.specs.declared.following.Followed.{Followed}
+use Rattle.report.specs.declared.counting.Account.{Account}
+use Rattle.report.specs.declared.following.Stopped.{Stopped}
+use Rattle.report.specs.declared.following.Followed.{Followed as Found}
 use Rattle.report.specs.Accounts.{accounts_of}
+
+-- a schedule's refusal and its line, 0 and 0 for none; N, and the accounts
+pub record Followed : Type 0 where
+  pub refusal : ℕ
+  pub line : ℕ
+  pub n : ℕ
+  pub accounts : List Account
+
+-- what the code's answer says: nothing of N and the accounts where it refuses
+abbrev pub told : Result Found Stopped → Followed
+told (Ok f) = record { refusal = 0; line = 0; n = f.n; accounts = f.accounts }
+told (Err r) = record { refusal = number r.refusal; line = r.line; n = 0; accounts = [] }
 
 -- the calls that are heard of later lines, and the refusal that ends them
 abbrev pub later_heard : LockState → List ℕ → List Call
@@ -22,6 +37,13 @@ followed_as s calls v = record { refusal = v.refusal; line = v.line; n = s.n; ac
 unfoldable pub followed_of : LockState → List ℕ → Followed
 followed_of s text =
     followed_as s (later_heard s text) (later_verdict (later_refusal s text) (length (later_heard s text)))
+
+-- the same refusal and line; and where nothing is refused, the same N and accounts
+pub record Agrees (f g : Followed) : Type 0 where
+  pub refusal : f.refusal ≡ g.refusal
+  pub line : f.line ≡ g.line
+  pub n : g.refusal ≡ 0 → f.n ≡ g.n
+  pub accounts : g.refusal ≡ 0 → f.accounts ≡ g.accounts
 
 -- of a whole schedule: its verdict; and where nothing is refused, N and the accounts over its run
 pub record Follows (text : List ℕ) (f : Followed) : Type 0 where

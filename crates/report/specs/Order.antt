@@ -6,7 +6,7 @@
 use Rattle.std.specs.Prelude.{ℕ, ◌≡◌, ◌≢◌, Bool, true, ◌&&◌, List, [], ◌∷◌, ◌++◌, length, replicate, eqb}
 use Rattle.lock.specs.State.{processors}
 use Rattle.report.specs.declared.Tally.{Tally}
-use Rattle.report.specs.declared.Reported.{Reported}
+use Rattle.report.specs.Table.{Reported}
 use Rattle.report.specs.Table.{added_to}
 use Rattle.report.specs.Report.{reported_of, rows_after}
 

@@ -1,5 +1,5 @@
 -- The report of one schedule: request [4]'s counts and rows by the definition over its steps, and the refusals in their order.
-use Rattle.std.specs.Prelude.{ℕ, ◌+◌, cond, List, ◌++◌, length, take, drop, replicate, eqb, ltb}
+use Rattle.std.specs.Prelude.{ℕ, ◌+◌, cond, List, ◌++◌, Result, Ok, Err, length, take, drop, replicate, eqb, ltb}
 use Rattle.lock.specs.declared.LockState.{LockState}
 use Rattle.lock.specs.State.{processors}
 use Rattle.lock.specs.Run.{Call}
@@ -7,10 +7,10 @@ use Rattle.lock.specs.Count.{entries_in, interrupts_in, joins_in}
 use Rattle.bench.specs.Bridge.{first_state, processors_of, heard_of}
 use Rattle.bench.specs.Verdict.{verdict_of}
 use Rattle.report.specs.declared.Tally.{Tally}
-use Rattle.report.specs.declared.Reported.{Reported}
-use Rattle.report.specs.declared.Measured.{Measured}
+use Rattle.report.specs.declared.Refused.{Refused}
+use Rattle.report.specs.declared.Measured.{Measured as Found}
 use Rattle.report.specs.Charges.{charges}
-use Rattle.report.specs.Table.{upto, Counts, counts_added}
+use Rattle.report.specs.Table.{Reported, told, upto, Counts, counts_added}
 
 -- the counts of a schedule, over the run of its calls
 abbrev pub charges_of : List ℕ → Counts
@@ -38,9 +38,20 @@ reported_of text table lent =
     (counts_added table (charges_of text)))
     (record { refusal = (verdict_of text).refusal; line = (verdict_of text).line; table = table })
 
+-- The same by value: what is answered, and how many of the tallies are laid down.
+pub record Measured : Type 0 where
+  pub told : Reported
+  pub count : ℕ
+  pub rows : List Tally
+
 -- what is refused lays down no row
 abbrev pub unmeasured : Reported → Measured
 unmeasured r = record { told = r; count = 0; rows = replicate processors no_tally }
+
+-- what the code's answer by value says
+abbrev pub told_measured : Result Found Refused → Measured
+told_measured (Ok m) = record { told = told (Ok m.table); count = m.count; rows = m.rows }
+told_measured (Err r) = unmeasured (told (Err r))
 
 -- "a list of rows, one for each processor": otherwise N rows are
 abbrev pub laid_down : List ℕ → Reported → Measured

@@ -1,9 +1,21 @@
 -- "a table of 16 by 16 counts carried from schedule to schedule and handed back": row a, column b. Counts are added cell by cell,
 -- unless one would pass 4,294,967,295: refusal 12.
-use Rattle.std.specs.Prelude.{ℕ, zero, suc, ◌+◌, Bool, cond, List, [], ◌∷◌, ◌++◌, get_or, leb}
+use Rattle.std.specs.Prelude.{ℕ, zero, suc, ◌+◌, Bool, cond, List, [], ◌∷◌, ◌++◌, Result, Ok, Err, get_or, leb}
 use Rattle.choice.specs.Every.{every}
 use Rattle.lock.specs.State.{processors}
-use Rattle.report.specs.declared.Reported.{Reported}
+use Rattle.report.specs.declared.Refused.{Refused}
+use Rattle.report.specs.Named.{number}
+
+-- What is answered of one schedule, in numbers: its refusal and the refusal's line, 0 and 0 for none, and the table.
+pub record Reported : Type 0 where
+  pub refusal : ℕ
+  pub line : ℕ
+  pub table : List (List ℕ)
+
+-- "a definition gives this paper's number and values for each of its cases": what the code's answer says
+abbrev pub told : Result (List (List ℕ)) Refused → Reported
+told (Ok table) = record { refusal = 0; line = 0; table = table }
+told (Err r) = record { refusal = number r.refusal; line = r.line; table = r.table }
 
 -- a list of n things, by their number
 unfoldable pub upto : {A : Type 0} → ℕ → (ℕ → A) → List A

@@ -1,88 +1,44 @@
 // The report of one schedule: judged in the order of the refusals, the table handed back, and the tallies laid into lent rows.
-ghost use Rattle.std.specs.Prelude.{◌≡◌, ◌++◌, ◌≤◌, ◌<◌, length, take, drop, get_or};
-ghost use Rattle.report.specs.Report.{no_tally, unmeasured, measured_of, rows_after};
+ghost use Rattle.std.specs.Prelude.{◌≡◌, ◌≤◌, length};
+ghost use Rattle.report.specs.Table.{told};
+ghost use Rattle.report.specs.Report.{told_measured, measured_of, rows_after};
 
-use crate::{Measured, Reported, Tally, counting, following, tables};
+use crate::following::Followed;
+use crate::{Measured, Refusal, Refused, Table, Tally, counting, following, tables};
 
-// Fewer rows are lent than N.
-const FEW_ROWS: u8 = 13;
-
-// What is refused lays down no row.
-fn refused(told: Reported) -> Measured
-    ensures { result ≡ unmeasured told }
+// The report of a schedule, where so many rows are lent: the table with its counts, and the tallies that are to be laid down; or
+// why it is refused, and the table as it was.
+pub fn by_value(schedule: &[u8], table: Table, lent: usize) -> Result<Measured, Refused>
+    ensures value { told_measured result ≡ measured_of schedule.now table lent }
+    ensures count_le_lent { ((told_measured result).count ≤ lent) × ((told_measured result).count ≤ 16) }
 {
-    let none = Tally {
-        entries: 0,
-        interrupts: 0,
-        joins: 0,
-    };
-    Measured {
-        told,
-        count: 0,
-        rows: [none; 16],
+    let Followed { n, accounts } = following::heard(schedule).map_err(|stopped| Refused {
+        refusal: Refusal::from(stopped.refusal),
+        line: stopped.line,
+        table,
+    })?;
+    let n = usize::from(n);
+    if lent < n {
+        return Err(Refused {
+            refusal: Refusal::FewRows,
+            line: 0,
+            table,
+        });
     }
-}
-
-// The report of a schedule, where so many rows are lent: the answer, and how many tallies are to be laid down, with them.
-pub fn by_value(schedule: &[u8], table: [[u32; 16]; 16], lent: usize) -> Measured
-    ensures value { result ≡ measured_of schedule.now table lent }
-    ensures count_le_lent { (result.count ≤ lent) × (result.count ≤ 16) }
-{
-    let heard = following::heard(schedule);
-    let refusal = heard.refusal;
-    if refusal != 0 {
-        let told = Reported::of(refusal, heard.line, table);
-        return refused(told);
-    }
-    let n = heard.n as usize;
-    let few = lent < n;
-    if few {
-        let told = Reported::of(FEW_ROWS, 0, table);
-        return refused(told);
-    }
-    let accounts = heard.accounts;
-    let charges = counting::charges(accounts);
-    let told = tables::added(table, charges);
-    let over = told.refusal;
-    if over != 0 {
-        return refused(told);
-    }
-    let rows = counting::tallies(accounts);
-    Measured {
-        told,
+    let sum = tables::added(table, counting::charges(&accounts))?;
+    Ok(Measured {
+        table: sum,
         count: n,
-        rows,
-    }
-}
-
-// The tally at a place.
-fn tally_at(tallies: [Tally; 16], i: usize) -> Tally
-    requires { i < 16 }
-    ensures { result ≡ get_or tallies i no_tally }
-{
-    tallies[i]
-}
-
-// So many tallies, into the first of the lent rows.
-fn fill(rows: &mut [Tally], tallies: [Tally; 16], n: usize)
-    requires { (n ≤ length rows.old) × (n ≤ 16) }
-    ensures { rows.new ≡ take n tallies ++ drop n rows.old }
-{
-    let mut i = 0;
-    while i < n {
-        rows[i] = tally_at(tallies, i);
-        i += 1;
-    }
+        rows: counting::tallies(&accounts),
+    })
 }
 
 // The report of a schedule: its counts added to the table, and its tallies in the first N of the lent rows.
-pub fn report(schedule: &[u8], table: [[u32; 16]; 16], rows: &mut [Tally]) -> Reported
-    ensures { (result ≡ (measured_of schedule.now table (length rows.old)).told)
+pub fn report(schedule: &[u8], table: Table, rows: &mut [Tally]) -> Result<Table, Refused>
+    ensures { (told result ≡ (measured_of schedule.now table (length rows.old)).told)
         × (rows.new ≡ rows_after schedule.now table rows.old) }
 {
-    let m = by_value(schedule, table, rows.len());
-    let tallies = m.tallies();
-    let count = m.count;
-    fill(rows, tallies, count);
-    m.told
+    let measured = by_value(schedule, table, rows.len())?;
+    rows[..measured.count].copy_from_slice(measured.tallies());
+    Ok(measured.table)
 }

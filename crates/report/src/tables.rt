@@ -1,85 +1,59 @@
 // A table of counts added to another, cell by cell; or 12, where a count would pass the greatest.
-ghost use Rattle.std.specs.Prelude.{◌≡◌, true, ◌+◌, leb};
-ghost use Rattle.report.specs.Table.{greatest, row_holds, row_sum, table_holds, table_sum, added_to};
+ghost use Rattle.std.specs.Prelude.{◌≡◌, true};
+ghost use Rattle.report.specs.Table.{told, row_holds, row_sum, table_holds, table_sum, added_to};
 
-use crate::Reported;
+use crate::{Refusal, Refused, Table};
+use std::array;
 
 // The greatest count.
 const GREATEST: u64 = 4294967295;
 
-// A count would pass the greatest.
-const TOO_MANY: u8 = 12;
-
-// The sum of two counts is one.
-fn holds(x: u32, y: u32) -> bool
-    ensures { result ≡ leb (x + y) greatest }
-{
-    x as u64 + y as u64 <= GREATEST
-}
-
 // Every sum of two rows is a count.
-fn row_holds(t: [u32; 16], m: [u32; 16]) -> bool
-    ensures { result ≡ row_holds t m }
+fn row_holds(t: &[u32; 16], m: &[u32; 16]) -> bool
+    ensures { result ≡ row_holds t.now m.now }
 {
-    let mut all = true;
-    let mut i = 0;
-    while i < 16 {
-        all = all & holds(t[i], m[i]);
-        i += 1;
-    }
-    all
+    t.iter().zip(m).all(|(x, y)| u64::from(*x) + u64::from(*y) <= GREATEST)
 }
 
 // The sums of two rows.
-pub(crate) fn row_sum(t: [u32; 16], m: [u32; 16]) -> [u32; 16]
-    requires { row_holds t m ≡ true }
-    ensures { result ≡ row_sum t m }
+pub(crate) fn row_sum(t: &[u32; 16], m: &[u32; 16]) -> [u32; 16]
+    requires { row_holds t.now m.now ≡ true }
+    ensures { result ≡ row_sum t.now m.now }
 {
-    let mut r = t;
-    let mut i = 0;
-    while i < 16 {
-        r[i] = t[i] + m[i];
-        i += 1;
-    }
-    r
+    array::from_fn(|i| t[i] + m[i])
 }
 
 // Every sum of two tables is a count.
-fn table_holds(t: [[u32; 16]; 16], m: [[u32; 16]; 16]) -> bool
-    ensures { result ≡ table_holds t m }
+fn table_holds(t: &Table, m: &Table) -> bool
+    ensures { result ≡ table_holds t.now m.now }
 {
-    let mut all = true;
-    let mut a = 0;
-    while a < 16 {
-        all = all & row_holds(t[a], m[a]);
-        a += 1;
-    }
-    all
+    t.iter().zip(m).all(|(t, m)| row_holds(t, m))
 }
 
 // The sums of two tables.
-fn table_sum(t: [[u32; 16]; 16], m: [[u32; 16]; 16]) -> [[u32; 16]; 16]
-    requires { table_holds t m ≡ true }
-    ensures { result ≡ table_sum t m }
+fn table_sum(t: &Table, m: &Table) -> Table
+    requires { table_holds t.now m.now ≡ true }
+    ensures { result ≡ table_sum t.now m.now }
 {
-    let mut r = t;
-    let mut a = 0;
-    while a < 16 {
-        let row = row_sum(t[a], m[a]);
-        r[a] = row;
-        a += 1;
+    // A loop, since a closure that gives a row would need both its clauses.
+    let mut sum = [[0; 16]; 16];
+    for a in 0..16 {
+        sum[a] = row_sum(&t[a], &m[a]);
     }
-    r
+    sum
 }
 
 // The table with the counts of another added; or 12, and the table as it was.
-pub fn added(t: [[u32; 16]; 16], m: [[u32; 16]; 16]) -> Reported
-    ensures { result ≡ added_to t m }
+pub fn added(t: Table, m: Table) -> Result<Table, Refused>
+    ensures { told result ≡ added_to t m }
 {
-    let all = table_holds(t, m);
-    if all {
-        let sum = table_sum(t, m);
-        return Reported::of(0, 0, sum);
+    if table_holds(&t, &m) {
+        Ok(table_sum(&t, &m))
+    } else {
+        Err(Refused {
+            refusal: Refusal::TooMany,
+            line: 0,
+            table: t,
+        })
     }
-    Reported::of(TOO_MANY, 0, t)
 }

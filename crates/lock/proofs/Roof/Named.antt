@@ -18,6 +18,7 @@ use Rattle.lock.specs.declared.places.NoPlace.{NoPlace}
 use Rattle.lock.specs.declared.Refusal.{Refusal}
 use Rattle.lock.specs.declared.Refusal.TheVariants.{UnknownEdition, ProcessorCount, UnknownEvent, NoSuchProcessor, Unsound}
 use Rattle.lock.specs.declared.Refused.{Refused}
+use Rattle.lock.proofs.Ground.Accepted.{refusal_above}
 use Rattle.lock.proofs.Ground.Editions.{edition_below}
 use Rattle.lock.specs.Event.{Answer, told, Accepts}
 use Rattle.lock.specs.Named.{edition_number, place_number, refusal_number, NamesEdition, NamesEvent, NamesPlace}
@@ -149,13 +150,6 @@ refusal_same ProcessorCount = refl
 refusal_same UnknownEvent = refl
 refusal_same NoSuchProcessor = refl
 refusal_same Unsound = refl
-
-refusal_above : (r : Refusal) → 0 < refusal_number r
-refusal_above UnknownEdition = lit< tt
-refusal_above ProcessorCount = lit< tt
-refusal_above UnknownEvent = lit< tt
-refusal_above NoSuchProcessor = lit< tt
-refusal_above Unsound = lit< tt
 
 accepted_is_none : (r : Refusal) → 0 ≡ refusal_number r → {A : Type 0} → A
 accepted_is_none r e = let above : 0 < refusal_number r = refusal_above r in absurd (omega (arith, e, above))

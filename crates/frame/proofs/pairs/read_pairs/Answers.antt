@@ -1,31 +1,33 @@
 -- `frame::pairs::read_pairs` meets its contract: two bytes more are tested, and put down as one pair more.
-use Rattle.std.proofs.Common.{◌≡◌, ◌*◌, length, refl, ap, ◌∙◌, arith}
+use Rattle.std.proofs.Common.{◌≡◌, ℕ, replicate, refl, ap, ◌∙◌, arith}
+use Rattle.std.proofs.lemmas.List.{length-replicate}
 use Rattle.choice.specs.Every.{every}
-use Rattle.frame.specs.Pairs.{is_digit, byte_at, pairs_from}
-use Rattle.frame.specs.Reading.{are_digits}
-use Rattle.frame.proofs.Pass.{digits_go_on, pairs_go_on}
+use Rattle.frame.specs.Pairs.{pairs_from}
+use Rattle.frame.specs.Reading.{pairs_of}
+use Rattle.frame.proofs.Pass.{digits_go_on, pairs_go_on, pairs_are}
 use Rattle.frame.proofs.pairs.read_pairs.Goals as goal
 
 pub loop-i-init : goal.loop-i-init
 unfolding every pairs_from
-loop-i-init c = record { within = omega arith; tested = refl; read = λ e. refl }
+loop-i-init g c = record { tested = refl; read = λ e. refl }
 
 pub loop-i-preserved : goal.loop-i-preserved
-loop-i-preserved c =
+loop-i-preserved g c =
     let at = c.loop-i in
     let high = c.worth-high in
     let low = c.worth-low in
     let text = c.args.text.now in record {
-      within = omega arith;
-      tested =
-          digits_go_on text at.i high.result low.result at.all high.ensures low.ensures at.invariant.tested;
+      tested = digits_go_on text at.i high.result low.result at.all high.ensures low.ensures at.invariant.tested;
       read =
-          pairs_go_on text at.i high.result low.result at.all high.ensures low.ensures c.args.numbers.now at.numbers
-          c.joined.result c.joined.ensures (omega arith) at.invariant.read;
+          pairs_go_on text at.i high.result low.result at.all high.ensures low.ensures _ at.number-items
+          c.joined.result c.joined.ensures (omega (arith, length-replicate {A = ℕ})) at.invariant.read;
     }
 
-pub returns-clause-value : goal.returns-clause-value
-unfolding are_digits
-returns-clause-value c =
-    let end : c.loop-i.i ≡ length c.args.numbers.now = omega arith in
-    c.loop-i.invariant.tested ∙ ap (λ n. every (2 * n) (λ b. is_digit (byte_at c.args.text.now b))) end
+pub returns : goal.returns
+returns g c =
+    let at = c.loop-i in
+    let ended : at.i ≡ g.row.N = omega arith in
+    c.then_some.ensures
+    ∙ pairs_are at.i c.args.text.now (replicate g.row.N 0) at.number-items at.all (omega (arith, length-replicate {A = ℕ}))
+    at.invariant.tested at.invariant.read
+    ∙ ap (λ k. pairs_of k c.args.text.now) ended

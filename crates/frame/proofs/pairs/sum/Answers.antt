@@ -1,16 +1,12 @@
--- `frame::pairs::sum` meets its contract: one value more is one addition more.
-use Rattle.std.proofs.Common.{refl, arith}
-use Rattle.frame.specs.Pairs.{sum_of}
-use Rattle.frame.proofs.Sums.{sum_goes_on}
+-- `frame::pairs::sum` meets its contract: the fold of the wrapping additions.
+use Rattle.std.proofs.Common.{ℕ, ◌+◌, ◌%◌, ◌∙◌, rules}
+use Rattle.std.proofs.lemmas.Iterator.{YieldsList-from_slice}
+use Rattle.std.proofs.lemmas.Iterator.Consumers.{fold_from_yields_List}
+use Rattle.frame.proofs.Sums.{sum_folded}
 use Rattle.frame.proofs.pairs.sum.Goals as goal
 
-pub loop-i-init : goal.loop-i-init
-unfolding sum_of
-loop-i-init c = record { within = omega arith; summed = refl }
-
-pub loop-i-preserved : goal.loop-i-preserved
-loop-i-preserved c = record {
-  within = omega arith;
-  summed =
-      sum_goes_on _ _ _ _ c.loop-i-test.true c.loop-i.invariant.summed c.wrapping_add_u8-total.ensures.value;
-}
+pub returns : goal.returns
+returns c =
+    fold_from_yields_List _ (λ (t v : ℕ). (t + v) % 256) 0 _ c.fold.ensures.ran (YieldsList-from_slice c.args.values.now (cc))
+    (λ a x b q k. search rules)
+    ∙ sum_folded c.args.values.now

@@ -9,12 +9,6 @@ returns-then-out-lt-ENDING c = let short = is_refused c.args.values.now c.args.o
   out_after = short.1;
 }
 
-pub returns-then-out-n : goal.returns-then-out-n
-returns-then-out-n c = let short = is_refused c.args.values.now c.args.out.now (omega arith) in record {
-  value = short.0;
-  out_after = short.1;
-}
-
 pub returns : goal.returns
 returns c =
     let values = c.args.values.now in

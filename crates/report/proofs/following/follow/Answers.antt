@@ -1,47 +1,81 @@
 -- `report::following::follow` meets its contract: an accepted line carries the calls and the accounts one further, a refused line
 -- ends them, and so does the end of the text.
-use Rattle.std.proofs.Common.{◌≡◌, ℕ, false, ◌<◌, ◌≤◌, List, length, sym, ap, ◌∙◌, eq-eqb, ne_eqb}
+use Rattle.std.proofs.Common.{◌≡◌, ℕ, false, eqb, ◌+◌, ◌<◌, ◌≤◌, List, length, Ok, Err, refl, sym, ap, ◌∙◌, rules}
+use Rattle.std.proofs.lemmas.Result.{err_from_is_err_and}
 use Rattle.lock.specs.declared.Row.{Row}
 use Rattle.lock.specs.declared.LockState.{LockState}
-use Rattle.lock.specs.Event.{Answer}
+use Rattle.lock.specs.declared.Refused.{Refused}
 use Rattle.lock.specs.State.{row}
-use Rattle.lock.specs.Event.{carried}
-use Rattle.frame.specs.Reading.{reads}
+use Rattle.lock.specs.Event.{Answer, Accepts, carried, happens, told as lock_told}
+use Rattle.lock.proofs.Ground.Accepted.{accepted_says, refused_says}
+use Rattle.frame.specs.declared.Frame.{Frame}
+use Rattle.frame.specs.declared.Refusal.{Refusal as LineRefusal}
+use Rattle.frame.specs.Reading.{reads, refused_by, told as frame_told, number as line_number}
+use Rattle.bench.specs.declared.Refusal.{Refusal}
+use Rattle.bench.specs.declared.Refusal.TheVariants.{Line, Lock}
+use Rattle.bench.specs.Named.{number}
 use Rattle.bench.specs.Log.{longest}
-use Rattle.bench.specs.Bridge.{line_refusal}
+use Rattle.bench.specs.Bridge.{call_of, line_refusal}
 use Rattle.bench.proofs.Frames.{framed}
-use Rattle.bench.proofs.Sound.{carried_is}
+use Rattle.bench.proofs.Sound.{carried_is, lock_not_zero}
 use Rattle.bench.proofs.Heard.{line_asks, line_unread}
 use Rattle.report.specs.declared.counting.Did.{Did}
 use Rattle.report.specs.declared.counting.Account.{Account}
-use Rattle.report.specs.Accounts.{did_by}
-use Rattle.report.proofs.Going.{Along, begins, stops, ends, Taken, low, fit, changed, quiet, goes_on}
+use Rattle.report.specs.declared.following.Stopped.{Stopped}
+use Rattle.report.specs.Accounts.{did_by, noted_by}
+use Rattle.report.specs.Followed.{told, followed_of, Agrees}
+use Rattle.report.proofs.Mapped.{kept_ok, kept_err, mapped_ok, mapped_err}
+use Rattle.report.proofs.Going.{Along, begins, stops, ends, agrees, disagrees, Taken, low, fit, changed, quiet, goes_on}
 use Rattle.report.proofs.following.follow.Goals as goal
 use Rattle.report.proofs.following.follow.Goals.{then-did, else-did}
 
 pub loop-rest-init : goal.loop-rest-init
-loop-rest-init c = begins c.args.text.now c.args.first c.requires.whole c.none-none.result c.none-none.ensures
+loop-rest-init c = begins c.args.text.now c.args.first c.requires.whole c.none-accounts.result c.none-accounts.ensures
 
--- the line asks for an event, and the lock has answered it
 module _
     (text : List ℕ) (first : LockState) (rest : List ℕ) (s : LockState) (accounts : List Account) (accepted : ℕ)
-    (along : Along text first rest s accounts accepted) (some : 0 < length rest) (kind event p check : ℕ)
-    (read : framed kind event p check ≡ reads rest false) (a : Answer) (e : a ≡ carried s event p) where
-  refuses : line_refusal s rest ≡ a.refusal
-  refuses =
-      (line_asks s rest some kind event p check (sym read)).1
-      ∙ ap (λ (x : Answer). x.refusal) (sym (carried_is along.sound event p a e))
+    (along : Along text first rest s accounts accepted) (some : 0 < length rest) where
+  -- the line is refused, by itself or by the lock
+  stopped : (refusal : Refusal) (d : Stopped) → line_refusal s rest ≡ number refusal → eqb (number refusal) 0 ≡ false
+      → d.refusal ≡ refusal → d.line ≡ accepted + 2 → Agrees (told (Err d)) (followed_of first text)
+  stopped refusal d is none r l =
+      disagrees d _ _ (stops _ _ _ _ _ _ along some (number refusal) is none) (ap number r) l (ap (λ (x : Refusal). eqb (number x) 0) r ∙ none)
 
-  taken : length text ≤ longest → a.refusal ≡ 0 → Taken text first rest s accounts accepted event p a
-  taken low none = record {
-    along = along;
-    within = low;
-    some = some;
-    asks = (line_asks s rest some kind event p check (sym read)).0;
-    refusal = (line_asks s rest some kind event p check (sym read)).1;
-    answers = carried_is along.sound event p a e;
-    none = eq-eqb a.refusal 0 none;
-  }
+  unread : (e : LineRefusal) (d : Stopped) → refused_by (line_number e) ≡ reads rest false → d.refusal ≡ Line e
+      → d.line ≡ accepted + 2 → Agrees (told (Err d)) (followed_of first text)
+  unread e d read r l =
+      let x = line_unread s rest some (line_number e) (sym read) in
+      stopped (Line e) d x.0 x.1 r l
+
+  module _ (f : Frame) (read : frame_told (Ok f) ≡ reads rest false) where
+    abbrev event : ℕ
+    event = f.first
+
+    abbrev p : ℕ
+    p = f.second
+
+    asks : (call_of rest ≡ record { event = event; processor = p }) × (line_refusal s rest ≡ (happens s event p).refusal)
+    asks = line_asks s rest some f.kind event p f.check (sym read)
+
+    turned_away : (r : Refused) (d : Stopped) → lock_told (Err r) ≡ carried s event p → d.refusal ≡ Lock r.refusal
+        → d.line ≡ accepted + 2 → Agrees (told (Err d)) (followed_of first text)
+    turned_away r d e is l =
+        stopped (Lock r.refusal) d
+        (asks.1 ∙ ap (λ (x : Answer). x.refusal) (sym (carried_is along.sound event p (lock_told (Err r)) e)))
+        (lock_not_zero r.refusal) is l
+
+    -- or the lock has taken the event
+    taken : length text ≤ longest → (next : LockState) → lock_told (Ok next) ≡ carried s event p
+        → Taken text first rest s accounts accepted event p (lock_told (Ok next))
+    taken low next e = record {
+      along = along;
+      within = low;
+      some = some;
+      asks = asks.0;
+      refusal = asks.1;
+      answers = carried_is along.sound event p (lock_told (Ok next)) e;
+      none = refl;
+    }
 
 -- the places of its processor before and after it are seen
 seen : (s t : LockState) (event p : ℕ) (was is : Row) (d : Did) → was ≡ row s p → is ≡ row t p
@@ -49,48 +83,68 @@ seen : (s t : LockState) (event p : ℕ) (was is : Row) (d : Did) → was ≡ ro
 seen s t event p was is d w i e =
     e ∙ ap (λ (r : Row). did_by event r.place is.place) w ∙ ap (λ (r : Row). did_by event (row s p).place r.place) i
 
-pub returns-then-refusal-ne0 : goal.returns-then-refusal-ne0
-returns-then-refusal-ne0 c =
+pub returns-in_err-event : goal.returns-in_err-event
+returns-in_err-event c =
     let l = c.loop-rest in
-    stops _ _ _ _ _ _ l.invariant c.loop-rest-test.true _
-    (refuses _ _ _ _ _ _ l.invariant c.loop-rest-test.true _ _ _ _ c.in-Frame.ensures _ c.carried-answer.ensures)
-    (ne_eqb _ 0 c.if-refusal-ne0.true)
+    let x = mapped_err frame_told (reads l.rest.now false) c.map_err.result _ c.read.result _ c.map_err.ensures.cases c.in_err-event.was c.read.ensures in
+    let d = c.in_err-event.field-0.0 in
+    let is : (d.refusal ≡ Line x.0) × (d.line ≡ l.accepted + 2) = search rules in
+    let p = err_from_is_err_and c.from_residual.result c.from_residual.ensures.1 in
+    rw (p.1, p.2) (unread _ _ _ _ _ _ l.invariant c.loop-rest-test.true x.0 d x.1 is.0 is.1)
 
-pub noted-then-requires-clause-p_bound : goal.noted-then-requires-clause-p_bound
-noted-then-requires-clause-p_bound c =
-    low
-    (taken _ _ _ _ _ _ c.loop-rest.invariant c.loop-rest-test.true _ _ _ _ c.in-Frame.ensures _ c.carried-answer.ensures
-    c.requires.text_len_bound c.if-refusal-ne0.false)
+pub returns-in_err-accepted_event : goal.returns-in_err-accepted_event
+returns-in_err-accepted_event c =
+    let l = c.loop-rest in
+    let f = c.in_ok-event.field-0 in
+    let read = mapped_ok frame_told (reads l.rest.now false) c.map_err.result _ c.read.result _ c.map_err.ensures.cases c.in_ok-event.was c.read.ensures in
+    let x = kept_err (Accepts l.state f.first f.second) c.map_err-in-loop-rest.result _ c.accepts.result _ c.map_err-in-loop-rest.ensures.cases c.in_err-accepted_event.was c.accepts.ensures in
+    let d = c.in_err-accepted_event.field-0.0 in
+    let is : (d.refusal ≡ Lock x.0) × (d.line ≡ l.accepted + 2) = search rules in
+    let p = err_from_is_err_and c.from_residual-in_err-accepted_event.result c.from_residual-in_err-accepted_event.ensures.1 in
+    rw (p.1, p.2)
+    (turned_away _ _ _ _ _ _ l.invariant c.loop-rest-test.true f read (record { refusal = x.0; state = l.state }) d
+    (refused_says l.state f.first f.second x.0 x.1) is.0 is.1)
 
-pub noted-then-requires-clause-all_fit : goal.noted-then-requires-clause-all_fit
-noted-then-requires-clause-all_fit c =
-    fit
-    (taken _ _ _ _ _ _ c.loop-rest.invariant c.loop-rest-test.true _ _ _ _ c.in-Frame.ensures _ c.carried-answer.ensures
-    c.requires.text_len_bound c.if-refusal-ne0.false)
+pub noted-accounts-requires-clause-below : goal.noted-accounts-requires-clause-below
+noted-accounts-requires-clause-below c =
+    let l = c.loop-rest in
+    let f = c.in_ok-event.field-0 in
+    let read = mapped_ok frame_told (reads l.rest.now false) c.map_err.result _ c.read.result _ c.map_err.ensures.cases c.in_ok-event.was c.read.ensures in
+    let accepts = kept_ok (Accepts l.state f.first f.second) c.map_err-in-loop-rest.result _ c.accepts.result _ c.map_err-in-loop-rest.ensures.cases c.in_ok-accepted_event.was c.accepts.ensures in
+    let next = accepted_says l.state f.first f.second c.in_ok-accepted_event.accepted_event c.does-state.result accepts c.does-state.ensures in
+    let is = low (taken _ _ _ _ _ _ l.invariant c.loop-rest-test.true f read c.requires.within c.does-state.result next) in
+    rw c.from.ensures is
+
+pub noted-accounts-requires-clause-room : goal.noted-accounts-requires-clause-room
+noted-accounts-requires-clause-room c =
+    let l = c.loop-rest in
+    let f = c.in_ok-event.field-0 in
+    let read = mapped_ok frame_told (reads l.rest.now false) c.map_err.result _ c.read.result _ c.map_err.ensures.cases c.in_ok-event.was c.read.ensures in
+    let accepts = kept_ok (Accepts l.state f.first f.second) c.map_err-in-loop-rest.result _ c.accepts.result _ c.map_err-in-loop-rest.ensures.cases c.in_ok-accepted_event.was c.accepts.ensures in
+    let next = accepted_says l.state f.first f.second c.in_ok-accepted_event.accepted_event c.does-state.result accepts c.does-state.ensures in
+    fit (taken _ _ _ _ _ _ l.invariant c.loop-rest-test.true f read c.requires.within c.does-state.result next)
 
 pub loop-rest-preserved : goal.loop-rest-preserved
 loop-rest-preserved c =
-    let line =
-    taken _ _ _ _ _ _ c.loop-rest.invariant c.loop-rest-test.true _ _ _ _ c.in-Frame.ensures _ c.carried-answer.ensures
-    c.requires.text_len_bound c.if-refusal-ne0.false in
+    let l = c.loop-rest in
+    let f = c.in_ok-event.field-0 in
+    let read = mapped_ok frame_told (reads l.rest.now false) c.map_err.result _ c.read.result _ c.map_err.ensures.cases c.in_ok-event.was c.read.ensures in
+    let accepts = kept_ok (Accepts l.state f.first f.second) c.map_err-in-loop-rest.result _ c.accepts.result _ c.map_err-in-loop-rest.ensures.cases c.in_ok-accepted_event.was c.accepts.ensures in
+    let next = accepted_says l.state f.first f.second c.in_ok-accepted_event.accepted_event c.does-state.result accepts c.does-state.ensures in
+    let line = taken _ _ _ _ _ _ l.invariant c.loop-rest-test.true f read c.requires.within c.does-state.result next in
     let d = c.told_apart-did in
     let did_is =
-    seen c.loop-rest.state c.carried-answer.result.state c.in-Frame.event c.in-Frame.p c.row-from.result c.row-to.result
+    seen l.state c.does-state.result f.first f.second c.row-from.result c.row-to.result
     d.result c.row-from.ensures c.row-to.ensures d.ensures in
     goes_on line c.if-did.accounts
     (elim c.if-did.branch [
-      | then-did w ↦ changed line d.result did_is c.if-did.accounts (w.accounts-is ∙ w.noted-then.ensures)
+      | then-did w ↦
+          changed line d.result did_is c.if-did.accounts
+          (w.accounts-is ∙ w.noted-accounts.ensures ∙ ap (λ (k : ℕ). noted_by l.accounts k d.result) w.from.ensures)
       | else-did w ↦ w.accounts-is ∙ quiet line d.result did_is w.if-did.false
     ])
-    c.rest-left.result.now c.rest-left.ensures
-
--- the line itself is refused
-pub returns-in-Refused : goal.returns-in-Refused
-returns-in-Refused c =
-    let l = c.loop-rest in
-    let unread = line_unread l.state l.rest.now c.loop-rest-test.true c.in-Refused.refusal (sym c.in-Refused.ensures) in
-    stops _ _ _ _ _ _ l.invariant c.loop-rest-test.true c.in-Refused.refusal unread.0 unread.1
+    c.rest-rest.result.now c.rest-rest.ensures
 
 -- no line is left
 pub returns : goal.returns
-returns c = ends _ _ _ _ _ _ c.loop-rest.invariant c.loop-rest-test.false
+returns c = agrees _ _ (ends _ _ _ _ _ _ c.loop-rest.invariant c.loop-rest-test.false)

@@ -1,37 +1,70 @@
 -- `report::reporting::by_value` meets its contract: the schedule's own refusal, then 13, then 12.
-use Rattle.std.proofs.Common.{ap, ◌∙◌, eq-eqb, ne_eqb, lt-ltb, le-ltb}
-use Rattle.report.specs.Table.{added_to}
-use Rattle.report.proofs.Measuring.{own, few, over, counted}
+use Rattle.std.proofs.Common.{◌≡◌, ℕ, Ok, Err, refl, sym, ap, ◌∙◌, subst, rules, arith, lt-ltb, le-ltb}
+use Rattle.std.proofs.lemmas.Result.{err_from_is_err_and}
+use Rattle.report.specs.declared.Refusal.TheVariants.{Schedule}
+use Rattle.report.specs.Named.{number}
+use Rattle.report.specs.Table.{told as report_told, added_to}
+use Rattle.report.specs.Report.{Measured, told_measured}
+use Rattle.report.specs.Followed.{told, Follows}
+use Rattle.report.proofs.Mapped.{mapped_ok, mapped_err}
+use Rattle.report.proofs.Numbers.{schedule_not_zero, not_zero}
+use Rattle.report.proofs.Measuring.{own_refused, few, over, counted}
 use Rattle.report.proofs.reporting.by_value.Goals as goal
 
-pub returns-then-refusal-ne0-clause-value : goal.returns-then-refusal-ne0-clause-value
-returns-then-refusal-ne0-clause-value c =
+pub returns-in_err-n-clause-value : goal.returns-in_err-n-clause-value
+returns-in_err-n-clause-value c =
     let a = c.args in
-    let h = c.heard-heard in
-    (own a.schedule.now a.table a.lent h.result h.ensures (ne_eqb _ 0 c.if-refusal-ne0.true) c.of-told.result c.of-told.ensures
-    c.refused.result c.refused.ensures).0
+    let x = mapped_err (λ r. r) c.heard.result c.map_err.result _ c.heard.result _ c.map_err.ensures.cases c.in_err-n.was refl in
+    let d = c.in_err-n.field-0.0 in
+    let is : (d.refusal ≡ Schedule x.0.refusal) × (d.line ≡ x.0.line) × (d.table ≡ a.table) = search rules in
+    let p = err_from_is_err_and c.from_residual.result c.from_residual.ensures.1 in
+    let found : Follows a.schedule.now (told (Err x.0)) = subst (λ r. Follows a.schedule.now (told r)) (sym x.1) c.heard.ensures in
+    rw (p.1, p.2)
+    (own_refused a.schedule.now a.table a.lent (told (Err x.0)) found (schedule_not_zero x.0.refusal) d (ap number is.0) is.1 is.2).0
 
-pub returns-then-few-clause-value : goal.returns-then-few-clause-value
-returns-then-few-clause-value c =
+pub returns-then-lent-n-clause-value : goal.returns-then-lent-n-clause-value
+returns-then-lent-n-clause-value c =
     let a = c.args in
-    let h = c.heard-heard in
-    (few a.schedule.now a.table a.lent h.result h.ensures (eq-eqb _ 0 c.if-refusal-ne0.false) (lt-ltb _ _ c.if-few.true)
-    c.of-told-then-few.result c.of-told-then-few.ensures c.refused-then-few.result c.refused-then-few.ensures).0
+    let h = c.in_ok-n.field-0 in
+    let ok = mapped_ok (λ r. r) c.heard.result c.map_err.result _ c.heard.result _ c.map_err.ensures.cases c.in_ok-n.was refl in
+    let found : Follows a.schedule.now (told (Ok h)) = subst (λ r. Follows a.schedule.now (told r)) (sym ok) c.heard.ensures in
+    (few a.schedule.now a.table a.lent (told (Ok h)) found refl (lt-ltb a.lent h.n (omega (arith, c.from-n.ensures)))
+    (record { refusal = 13; line = 0; table = a.table }) refl _ refl).0
 
-pub returns-then-over-ne0-clause-value : goal.returns-then-over-ne0-clause-value
-returns-then-over-ne0-clause-value c =
+pub returns-in_err-sum-clause-value : goal.returns-in_err-sum-clause-value
+returns-in_err-sum-clause-value c =
     let a = c.args in
-    let h = c.heard-heard in
-    (over a.schedule.now a.table a.lent h.result h.ensures (eq-eqb _ 0 c.if-refusal-ne0.false) (le-ltb _ _ c.if-few.false)
-    c.added-told.result (c.added-told.ensures ∙ ap (added_to a.table) c.charges-charges.ensures)
-    (ne_eqb _ 0 c.if-over-ne0.true) c.refused-then-over-ne0.result c.refused-then-over-ne0.ensures).0
+    let h = c.in_ok-n.field-0 in
+    let ok = mapped_ok (λ r. r) c.heard.result c.map_err.result _ c.heard.result _ c.map_err.ensures.cases c.in_ok-n.was refl in
+    let found : Follows a.schedule.now (told (Ok h)) = subst (λ r. Follows a.schedule.now (told r)) (sym ok) c.heard.ensures in
+    let r = c.in_err-sum.field-0.0 in
+    let p = err_from_is_err_and c.from_residual-in_err-sum.result c.from_residual-in_err-sum.ensures.1 in
+    rw (p.1, p.2)
+    (over a.schedule.now a.table a.lent (told (Ok h)) found refl (le-ltb a.lent h.n (omega (arith, c.from-n.ensures)))
+    (report_told (Err r)) (c.in_err-sum.ensures ∙ ap (added_to a.table) c.charges.ensures) (not_zero r.refusal)
+    (told_measured (Err r)) refl).0
 
-pub returns : goal.returns
-returns c =
+-- nothing is refused
+pub invariant_of-result : goal.invariant_of-result
+invariant_of-result c =
     let a = c.args in
-    let h = c.heard-heard in
+    let h = c.in_ok-n.field-0 in
+    let ok = mapped_ok (λ r. r) c.heard.result c.map_err.result _ c.heard.result _ c.map_err.ensures.cases c.in_ok-n.was refl in
+    let found : Follows a.schedule.now (told (Ok h)) = subst (λ r. Follows a.schedule.now (told r)) (sym ok) c.heard.ensures in
     let ended =
-    counted a.schedule.now a.table a.lent h.result h.ensures (eq-eqb _ 0 c.if-refusal-ne0.false) (le-ltb _ _ c.if-few.false)
-    c.added-told.result (c.added-told.ensures ∙ ap (added_to a.table) c.charges-charges.ensures)
-    (eq-eqb _ 0 c.if-over-ne0.false) c.tallies-rows.result c.tallies-rows.ensures in
-    record { value = ended.0; count_le_lent = ended.1 }
+    counted a.schedule.now a.table a.lent (told (Ok h)) found refl (le-ltb a.lent h.n (omega (arith, c.from-n.ensures)))
+    (report_told (Ok c.in_ok-sum.sum)) (c.in_ok-sum.ensures ∙ ap (added_to a.table) c.charges.ensures) refl c.tallies.result
+    c.tallies.ensures in
+    record { within = omega (arith, c.from-n.ensures, ended.1.1) }
+
+pub returns-clause-value : goal.returns-clause-value
+returns-clause-value c =
+    let a = c.args in
+    let h = c.in_ok-n.field-0 in
+    let ok = mapped_ok (λ r. r) c.heard.result c.map_err.result _ c.heard.result _ c.map_err.ensures.cases c.in_ok-n.was refl in
+    let found : Follows a.schedule.now (told (Ok h)) = subst (λ r. Follows a.schedule.now (told r)) (sym ok) c.heard.ensures in
+    let ended =
+    counted a.schedule.now a.table a.lent (told (Ok h)) found refl (le-ltb a.lent h.n (omega (arith, c.from-n.ensures)))
+    (report_told (Ok c.in_ok-sum.sum)) (c.in_ok-sum.ensures ∙ ap (added_to a.table) c.charges.ensures) refl c.tallies.result
+    c.tallies.ensures in
+    ap {B = Measured} (λ (k : ℕ). record { told = report_told (Ok c.in_ok-sum.sum); count = k; rows = c.tallies.result }) c.from-n.ensures ∙ ended.0

@@ -1,6 +1,0 @@
--- `bench::laws::case_does_not_matter` promises a law that is proved in `proofs/Proved.antt`.
-use Rattle.bench.proofs.Proved.{case_does_not_matter}
-use Rattle.bench.proofs.laws.case_does_not_matter.Goals as goal
-
-pub returns : goal.returns
-returns c = case_does_not_matter
