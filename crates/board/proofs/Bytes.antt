@@ -1,11 +1,14 @@
 -- What a number of bytes says.
 --     line_whole, line_absent   a line's bytes are all written, or none: the writer's refusal says which
 --     log_size                  a log has at least nine bytes
+--     size_told                 the number of them as the bench's answer has it
 --     zero_is_short             0 bytes of a log are written exactly where the buffer has not the room
 -- Assumes nothing.
 use Prim.Native.Nat.{ℕ, ◌≤◌}
 use native.Mathlib.Omega.{arith}
-use mathlib.Core.Path.{◌≡◌, sym, ap, ◌∙◌}
+use Rattle.std.specs.Prelude.{Result, Ok, Err}
+use Rattle.std.specs.Result.{result_unwrap_or}
+use mathlib.Core.Path.{◌≡◌, refl, sym, ap, ◌∙◌}
 use mathlib.Core.Logic.{⊎_elim}
 use mathlib.Core.Bool.{Bool, true, false, cond}
 use mathlib.Core.List.{List}
@@ -18,7 +21,8 @@ use Rattle.frame.specs.Reading.{Told, reads, rest_of}
 use Rattle.frame.specs.Writing.{writes, header_line}
 use Rattle.frame.proofs.Proved.{lengths_are_known}
 use Rattle.bench.specs.Log.{longest, begun, opened, log_of, log_from, second, third}
-use Rattle.bench.specs.Lent.{room_for, logged}
+use Rattle.frame.specs.declared.NoRoom.{NoRoom}
+use Rattle.bench.specs.Lent.{told, room_for, logged}
 use Rattle.bench.proofs.Sizes.{refusal_size}
 use Rattle.board.specs.Written.{written}
 
@@ -27,17 +31,17 @@ all_or_none true n r e = ap (λ (x : ℕ). cond (eqb x 0) n 0) e
 all_or_none false n r e = ap (λ (x : ℕ). cond (eqb x 0) n 0) e
 
 module _ (line out : List ℕ) (r : ℕ) (e : r ≡ writes line out) where
-  told : (b : Bool) → eqb r 0 ≡ b → cond b (length line) 0 ≡ written line out
+  by_refusal : (b : Bool) → eqb r 0 ≡ b → cond b (length line) 0 ≡ written line out
   unfolding written
-  told b h =
+  by_refusal b h =
       sym (ap (λ (x : Bool). cond x (length line) 0) h)
       ∙ all_or_none (leb (length line) (length out)) (length line) r e
 
   pub line_whole : eqb r 0 ≡ true → length line ≡ written line out
-  line_whole h = told true h
+  line_whole h = by_refusal true h
 
   pub line_absent : eqb r 0 ≡ false → 0 ≡ written line out
-  line_absent h = told false h
+  line_absent h = by_refusal false h
 
 begun_size : (text : List ℕ) (edition n : ℕ) → 9 ≤ length (begun text edition n)
 unfolding begun
@@ -69,6 +73,11 @@ log_size text =
     (λ (e : ltb longest (length text) ≡ true). simp e (omega (arith, refusal_size 1 0)))
     (λ (e : ltb longest (length text) ≡ false). simp e (opened_size text (reads text true)))
     (cases (ltb longest (length text)))
+
+-- of a log that is not written, 0
+pub size_told : (r : Result ℕ NoRoom) → result_unwrap_or r 0 ≡ (told r).length
+size_told (Ok n) = refl
+size_told (Err e) = refl
 
 pub zero_is_short : (text out : List ℕ) → eqb (logged text out).length 0 ≡ ltb (length out) (room_for (length text))
 unfolding logged

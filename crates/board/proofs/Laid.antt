@@ -4,21 +4,26 @@
 --     row_put           a tally's three stores, behind what is laid down so far
 --     row_goes_on       one tally more is laid down; the numbers after it are as they were
 --     told_is           what is answered beside the tallies is the report
+--     table_stays       what is refused leaves the table as it was
 --     numbers_are       the lent numbers, once the tallies of a report are laid down
 -- Assumes nothing.
 use Prim.Native.Nat.{ℕ, ◌+◌, ◌*◌, ◌/◌, ◌<◌}
 use native.Mathlib.Numerals.{add-one}
 use native.Mathlib.Omega.{arith}
-use mathlib.Core.Path.{◌≡◌, refl, sym, ap, ◌∙◌}
+use mathlib.Core.Path.{◌≡◌, refl, sym, ap, ◌∙◌, subst}
+use mathlib.Core.Logic.{◌≢◌}
+use mathlib.Core.Bool.{false}
 use mathlib.Core.List.{List, [], ◌∷◌, ◌++◌, append_assoc}
-use lib.ListN.{length, get_or, take, drop, set, length-append}
+use lib.ListN.{length, get_or, take, drop, set, replicate, length-append, length-replicate}
 use lib.Seq.{take-suc, length-take-le}
 use lib.Dec.{eqb}
-use Rattle.choice.proofs.Tests.{by_either}
+use borrow.Author.Tests.{eq-eqb}
+use Rattle.choice.proofs.Tests.{by_either, clash}
 use Rattle.frame.proofs.Buffers.{put_next}
 use Rattle.report.specs.declared.Tally.{Tally}
-use Rattle.report.specs.declared.Measured.{Measured}
-use Rattle.report.specs.Report.{no_tally, reported_of, measured_of}
+use Rattle.report.specs.Table.{Reported}
+use Rattle.report.specs.Report.{Measured, no_tally, reported_of, measured_of}
+use Rattle.report.proofs.Orders.{refused_adds_nothing}
 use Rattle.board.specs.Numbers.{numbers_of, numbers_after}
 
 pub numbers_length : (ts : List Tally) → length (numbers_of ts) ≡ 3 * length ts
@@ -78,14 +83,26 @@ told_is text table lent =
     let r = reported_of text table lent in
     by_either (λ (m : Measured). m.told ≡ r) (eqb r.refusal 0) refl refl
 
+-- what is refused leaves the table as it was
+pub table_stays : (text : List ℕ) (table : List (List ℕ)) (lent : ℕ) (r : Reported) → r ≡ reported_of text table lent
+    → eqb r.refusal 0 ≡ false → (reported_of text table lent).table ≡ table
+table_stays text table lent r e some =
+    let rows : List Tally = replicate lent no_tally in
+    subst (λ (n : ℕ). (reported_of text table n).refusal ≢ 0 → (reported_of text table n).table ≡ table)
+    (length-replicate lent no_tally)
+    (λ h. (refused_adds_nothing text table rows h).table_stays)
+    (λ z. clash (eq-eqb (reported_of text table lent).refusal 0 z) (ap (λ (x : Reported). eqb x.refusal 0) (sym e) ∙ some))
+
 pub numbers_are :
     (text : List ℕ) (table : List (List ℕ)) (ns : List ℕ) (m : Measured) (ts : List Tally) (after : List ℕ)
     → m ≡ measured_of text table (length ns / 3)
-    → ts ≡ m.rows
-    → after ≡ numbers_of (take m.count ts) ++ drop (3 * m.count) ns
+    → ts ≡ take m.count m.rows
+    → length ts ≡ m.count
+    → after ≡ numbers_of ts ++ drop (3 * length ts) ns
     → after ≡ numbers_after text table ns
 unfolding numbers_after
-numbers_are text table ns m ts after is rows laid =
+numbers_are text table ns m ts after is front long laid =
     laid
-    ∙ ap (λ (l : List Tally). numbers_of (take m.count l) ++ drop (3 * m.count) ns) rows
+    ∙ ap (λ (k : ℕ). numbers_of ts ++ drop (3 * k) ns) long
+    ∙ ap (λ (l : List Tally). numbers_of l ++ drop (3 * m.count) ns) front
     ∙ ap (λ (k : Measured). numbers_of (take k.count k.rows) ++ drop (3 * k.count) ns) is

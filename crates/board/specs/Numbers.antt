@@ -1,7 +1,7 @@
 -- A report where the rows are lent as plain numbers, three for each tally, as C and Rust programs lend them.
 use Rattle.std.specs.Prelude.{ℕ, ◌*◌, ◌/◌, List, [], ◌∷◌, ◌++◌, length, take, drop}
 use Rattle.report.specs.declared.Tally.{Tally}
-use Rattle.report.specs.declared.Reported.{Reported}
+use Rattle.report.specs.Table.{Reported}
 use Rattle.report.specs.Report.{reported_of, measured_of}
 
 -- "this schedule's entries, interrupts taken and joins", a row after the other

@@ -2,7 +2,7 @@
 use Rattle.std.specs.Prelude.{ℕ, ◌≡◌, List}
 use Rattle.frame.specs.Writing.{leaves}
 use Rattle.bench.specs.Lent.{room_for, logged, left}
-use Rattle.report.specs.declared.Reported.{Reported}
+use Rattle.report.specs.Table.{Reported}
 use Rattle.report.specs.Table.{added_to}
 use Rattle.board.specs.Written.{written}
 use Rattle.board.specs.Numbers.{told_with, numbers_after}

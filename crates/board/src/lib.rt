@@ -19,6 +19,9 @@ ghost use Rattle.board.specs.Numbers.{told_with, numbers_after};
 // A line of four pairs has 9 bytes.
 const LINE: usize = 9;
 
+// The number where nothing is refused.
+const ACCEPTED: u8 = 0;
+
 // The room that a buffer must have for the log of a schedule of so many bytes.
 pub fn pontivesca_room(bytes: usize) -> usize
     ensures { result ≡ room_for bytes }
@@ -33,8 +36,7 @@ pub fn pontivesca_log(schedule: &[u8], out: &mut [u8]) -> usize
     ensures result_value { eqb result 0 ≡ ltb (length out.old) (room_for (length schedule.now)) }
     ensures out_after { out.new ≡ left schedule.now out.old }
 {
-    let logged = bench::bench(schedule, out);
-    logged.length
+    bench::bench(schedule, out).unwrap_or(0)
 }
 
 // A line of four pairs, `kind first second check`, in the first bytes of `out`: 9. 0, and nothing written, where `out`
@@ -43,9 +45,10 @@ pub fn pontivesca_line(kind: u8, first: u8, second: u8, out: &mut [u8]) -> usize
     ensures value { result ≡ written (line_of (kind ∷ first ∷ second ∷ [])) out.old }
     ensures out_after { out.new ≡ leaves (line_of (kind ∷ first ∷ second ∷ [])) out.old }
 {
-    let refusal = frame::write_frame(out, kind, first, second);
-    let whole = refusal == 0;
-    if whole { LINE } else { 0 }
+    match frame::write_frame(out, kind, first, second) {
+        Ok(()) => LINE,
+        Err(_) => 0,
+    }
 }
 
 // Who made whom wait in a schedule: its refusal, 0 for none, and the refusal's line. Where nothing is refused the schedule's counts
@@ -61,15 +64,18 @@ pub fn pontivesca_report(
     ensures table_after { table.new ≡ (told_with schedule.now table.old rows.old).table }
     ensures rows_after { rows.new ≡ numbers_after schedule.now table.old rows.old }
 {
-    let given = *table;
-    let measured = report::by_value(schedule, given, rows.len() / 3);
-    let tallies = measured.tallies();
-    rows::lay(rows, tallies, measured.count);
-    let told = measured.told;
-    let sum = told.table_of();
-    *table = sum;
-    *line = told.line;
-    told.refusal
+    match report::by_value(schedule, *table, rows.len() / 3) {
+        Ok(measured) => {
+            rows::lay(rows, measured.tallies());
+            *table = measured.table;
+            *line = 0;
+            ACCEPTED
+        }
+        Err(refused) => {
+            *line = refused.line;
+            u8::from(refused.refusal)
+        }
+    }
 }
 
 // A table of another part added to this one: 0. 12, and the table as it was, where a count would pass 4,294,967,295.
@@ -77,10 +83,11 @@ pub fn pontivesca_add(table: &mut [[u32; 16]; 16], other: &[[u32; 16]; 16]) -> u
     ensures value { result ≡ (added_to table.old other.now).refusal }
     ensures table_after { table.new ≡ (added_to table.old other.now).table }
 {
-    let given = *table;
-    let more = *other;
-    let told = report::added(given, more);
-    let sum = told.table_of();
-    *table = sum;
-    told.refusal
+    match report::added(*table, *other) {
+        Ok(sum) => {
+            *table = sum;
+            ACCEPTED
+        }
+        Err(refused) => u8::from(refused.refusal),
+    }
 }

@@ -5,12 +5,16 @@ ghost use Rattle.std.specs.Prelude.{◌≤◌, length};
 
 use std::io::Read;
 
+// One byte more than the longest schedule, so that a longer one is seen.
+const SCHEDULE: usize = bench::LONGEST + 1;
+
+// Room for the log of 6,001 lines.
+const LOG: usize = 102028;
+
 fn main(rt: HostRuntime) {
-    // One byte more than the longest schedule, so that a longer one is seen.
-    let mut schedule = [0u8; 54010];
+    let mut schedule = [0u8; SCHEDULE];
     let n = read_full(&mut rt.stdin(), &mut schedule);
-    // Room for the log of 6,001 lines.
-    let mut log = [0u8; 102028];
+    let mut log = [0u8; LOG];
     let Ok(length) = bench::bench(&schedule[..n], &mut log) else {
         return;
     };

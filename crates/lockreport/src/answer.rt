@@ -12,16 +12,18 @@ pub struct Answer<'a> {
 }
 
 impl<'a> Answer<'a> {
-    // Nothing is refused.
-    pub fn rows(rows: &'a [Tally]) -> Answer<'a> {
+    // Of what is not refused, with the rows laid down.
+    pub fn accepted(rows: &'a [Tally]) -> Answer<'a> {
         Answer {
             refusal: 0,
             line: 0,
             rows,
         }
     }
+}
 
-    pub fn refused(refused: Refused) -> Answer<'a> {
+impl From<Refused> for Answer<'_> {
+    fn from(refused: Refused) -> Self {
         Answer {
             refusal: refused.refusal.into(),
             line: refused.line,

@@ -14,17 +14,23 @@ use std::fs::{Files, OpenOptions};
 use std::io::Read;
 use table::Shown;
 
+// One byte more than the longest schedule, so that a longer one is seen.
+const SCHEDULE: usize = 54010;
+
+// One byte more than a table's text, likewise.
+const TEXT: usize = table::LENGTH + 1;
+
 // The rows lent to each schedule: as many as there are processors at most.
 const LENT: usize = 16;
 
 // What cannot be written is left out; who reads the lines counts them.
 fn main(rt: HostRuntime) {
-    // One byte more than the longest schedule, so that a longer one is seen. All schedules are read into it: to clear one for each
-    // would take longer than a short schedule's report.
-    let mut schedule = [0u8; 54010];
+    // All schedules are read into it: to clear one for each would take longer than a short schedule's report.
+    let mut schedule = [0u8; SCHEDULE];
     let mut table = [[0; 16]; 16];
     // The first word is the program's own name.
     for i in 1..usize::MAX {
+        // `env::args` would take a heap.
         let mut word = [0u8; 4097];
         match rt.arg(i, &mut word) {
             Ok(n) => take_in(&rt, &word[..n], &mut table, &mut schedule),
@@ -62,24 +68,23 @@ fn take_schedule(
     match report::by_value(&schedule[..n], *table, LENT) {
         Ok(measured) => {
             *table = measured.table;
-            tell(rt, Answer::rows(measured.tallies()));
+            tell(rt, Answer::accepted(measured.tallies()));
         }
-        Err(refused) => tell(rt, Answer::refused(refused)),
+        Err(refused) => tell(rt, refused.into()),
     }
     Some(())
 }
 
 fn take_table(rt: &HostRuntime, path: &[u8], table: &mut Table) -> Option<()> {
-    // One byte more than a table's text, so that a longer one is seen.
-    let mut text = [0u8; 2817];
+    let mut text = [0u8; TEXT];
     let n = read_file(rt, path, &mut text)?;
     let more = table::read(&text[..n])?;
     match report::added(*table, more) {
         Ok(sum) => {
             *table = sum;
-            tell(rt, Answer::rows(&[]));
+            tell(rt, Answer::accepted(&[]));
         }
-        Err(refused) => tell(rt, Answer::refused(refused)),
+        Err(refused) => tell(rt, refused.into()),
     }
     Some(())
 }

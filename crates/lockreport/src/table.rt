@@ -3,9 +3,9 @@
 use report::Table;
 use std::fmt;
 
-const LENGTH: usize = 2816;
+pub const LENGTH: usize = 16 * LINE;
 
-const LINE: usize = 176;
+const LINE: usize = 16 * CELL;
 
 const CELL: usize = 11;
 

@@ -1,47 +1,43 @@
 // The number generator of docs/RANDOM.md.
-#[derive(Clone, Copy)]
+ghost use Rattle.std.specs.Prelude.{◌≡◌, ◌<◌, length};
+
+#[derive(Drop)]
 pub struct Dice {
-    pub x: u64,
-    // what the last roll gave
-    pub got: u64,
+    x: usize,
+    ghost in_range: { x < 2147483648 },
 }
 
 impl Dice {
-    // for schedule or trial i; the bounds are past all of these numbers, and keep the sum within its type
-    pub fn seeded(i: u64, more: u64) -> Dice {
+    // for schedule, trial or list i
+    pub fn seeded(i: u32, more: u8) -> Dice {
         Dice {
-            x: (i % 1048576 * 7919 + more % 65536) % 2147483648,
-            got: 0,
+            x: (i as usize * 7919 + more as usize) % 2147483648,
         }
     }
 
     // "draw k"
-    pub fn roll(self, k: u64) -> Dice {
-        let x = (self.x % 2147483648 * 1103515245 + 12345) % 2147483648;
-        let top = x / 32768;
-        Dice {
-            x,
-            got: below(top, k),
-        }
+    pub fn roll(&mut self, k: usize) -> usize
+        requires { 0 < k }
+        ensures { result < k }
+    {
+        self.x = (self.x * 1103515245 + 12345) % 2147483648;
+        self.x / 32768 % k
     }
 
-    // what was drawn, and so much more
-    pub fn plus(self, more: u64) -> Dice {
-        Dice {
-            x: self.x,
-            got: self.got % 65536 + more % 65536,
-        }
+    // "draw 2 is 0"
+    pub fn is_zero(&mut self) -> bool {
+        self.roll(2) == 0
     }
 
-    // no draw: `got` is given
-    pub fn giving(self, got: u64) -> Dice {
-        Dice { x: self.x, got }
+    // "draw 256"
+    pub fn byte(&mut self) -> u8 {
+        self.roll(256) as u8
     }
-}
 
-fn below(top: u64, k: u64) -> u64 {
-    if k == 0 {
-        return 0;
+    // "the (draw M)-th of", where M is how many there are
+    pub fn one_of<T: Copy>(&mut self, items: &[T]) -> T
+        requires { 0 < length items.now }
+    {
+        items[self.roll(items.len())]
     }
-    top % k
 }

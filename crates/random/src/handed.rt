@@ -1,110 +1,97 @@
 // States handed in at random, each with one event, and the digest of what comes back.
+use crate::damage;
 use crate::dice::Dice;
-use crate::{damage, digest, state};
-use lock::{LockState, Row};
+use crate::digest::Digest;
+use crate::setup::{QUEUED, Setup};
+use lock::{Edition, LockState};
 
 // The trials are told in so many blocks, with so many trials in each.
-pub const BLOCKS: u64 = 130;
+pub const BLOCKS: u8 = 130;
 
-const EACH: u64 = 600;
+const EACH: u32 = 600;
 
 // The trials from this one on are of edition 3.
-const OLD_FROM: u64 = 60000;
+const OLD_FROM: u32 = 60000;
 
 // How many events of a block were accepted, and the answers' digest.
 #[derive(Clone, Copy)]
 pub struct Block {
-    pub accepted: u64,
-    pub digest: u64,
+    pub accepted: u32,
+    pub digest: Digest,
 }
 
-// The trials of one block.
-pub fn trials(number: u64) -> Block {
-    let mut b = Block {
-        accepted: 0,
-        digest: digest::NOTHING,
-    };
-    for k in 0..EACH {
-        let next = trial(b, number % 65536 * EACH + k);
-        b = next;
+impl Block {
+    // The trials of one block.
+    pub fn tried(number: u8) -> Block {
+        let mut block = Block {
+            accepted: 0,
+            digest: Digest::new(),
+        };
+        let first = u32::from(number) * EACH;
+        for t in first..first + EACH {
+            block.add_trial(t);
+        }
+        block
     }
-    b
-}
 
-fn trial(b: Block, t: u64) -> Block {
-    let e = edition(Dice::seeded(t, 29), t);
-    let size = e.roll(16);
-    let n = (size.got % 16 + 1) as u8;
-    let made = damage::damaged((e.got % 256) as u8, n, size);
-    let what = happening(made.dice);
-    let who = whom(what, n);
-    let state = made.state;
-    let answer = state.event((what.got % 256) as u8, (who.got % 256) as u8);
-    let refusal = answer.refusal;
-    let after = answer.state;
-    Block {
-        accepted: b.accepted % 65536 + bit(refusal == 0) as u64,
-        digest: with_state(digest::mixed(b.digest, refusal), after),
+    fn add_trial(&mut self, t: u32) {
+        let mut dice = Dice::seeded(t, 29);
+        let edition = edition(t, &mut dice);
+        let setup = Setup::drawn(edition, &mut dice);
+        let state = damage::damaged(setup, &mut dice);
+        let event = event(&mut dice);
+        let processor = processor(setup, &mut dice);
+        let (refusal, after) = match state.event(event, processor) {
+            Ok(after) => (0, after),
+            Err(refused) => (u8::from(refused.refusal), refused.state),
+        };
+        if refusal == 0 {
+            self.accepted = self.accepted.saturating_add(1);
+        }
+        self.digest.add(&[refusal]);
+        add_state(&mut self.digest, after);
     }
 }
 
-// the edition, in `got`: one with a queue is drawn, edition 3 is given
-fn edition(d: Dice, t: u64) -> Dice {
+// one with a queue is drawn, edition 3 is given
+fn edition(t: u32, dice: &mut Dice) -> Edition {
     if t < OLD_FROM {
-        return d.roll(state::OLD);
-    }
-    d.giving(state::OLD)
-}
-
-// the event, in `got`
-fn happening(d: Dice) -> Dice {
-    let kind = d.roll(8);
-    let k = kind.got;
-    match k {
-        0 => kind.giving(2),
-        1 => kind.roll(256),
-        2 => kind.roll(4),
-        _ => kind.giving(1),
+        dice.one_of(&QUEUED)
+    } else {
+        Edition::Old
     }
 }
 
-// the processor, in `got`
-fn whom(d: Dice, n: u8) -> Dice {
-    let far = d.roll(8);
-    let f = far.got;
-    match f {
-        0 => far.roll(256),
-        1 => far.roll(3).plus(state::last(n)),
-        _ => far.roll(n as u64),
+fn event(dice: &mut Dice) -> u8 {
+    match dice.roll(8) {
+        0 => 2,
+        1 => dice.byte(),
+        2 => dice.roll(4) as u8,
+        _ => 1,
     }
 }
 
-// the state's bytes mixed into a digest
-fn with_state(h: u64, state: LockState) -> u64 {
-    let mut sum = digest::mixed(
-        digest::mixed(digest::mixed(h, state.edition), state.n),
-        state.tail,
-    );
-    for i in 0..LockState::PROCESSORS {
-        sum = with_cells(sum, state.row(i));
+fn processor(setup: Setup, dice: &mut Dice) -> u8 {
+    match dice.roll(8) {
+        0 => dice.byte(),
+        1 => setup.n - 1 + dice.roll(3) as u8,
+        _ => setup.processor(dice),
     }
-    sum
 }
 
-fn with_cells(h: u64, r: Row) -> u64 {
-    let left = digest::mixed(
-        digest::mixed(
-            digest::mixed(digest::mixed(h, r.next), r.locked),
-            bit(r.guard),
-        ),
-        bit(r.flag),
-    );
-    digest::mixed(
-        digest::mixed(digest::mixed(digest::mixed(left, r.place), r.pred), r.succ),
-        r.nx,
-    )
-}
-
-fn bit(b: bool) -> u8 {
-    if b { 1 } else { 0 }
+// The state's bytes mixed into a digest.
+fn add_state(digest: &mut Digest, state: LockState) {
+    digest.add(&[state.edition, state.n, state.tail]);
+    for r in state.rows {
+        digest.add(&[
+            r.next,
+            r.locked,
+            u8::from(r.guard),
+            u8::from(r.flag),
+            r.place,
+            r.pred,
+            r.succ,
+            r.nx,
+        ]);
+    }
 }

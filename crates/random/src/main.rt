@@ -5,7 +5,6 @@
 #![tactic(auto)]
 
 mod bytes;
-mod cells;
 mod damage;
 mod dice;
 mod digest;
@@ -13,149 +12,118 @@ mod handed;
 mod list;
 mod plan;
 mod reported;
+mod setup;
 mod start;
 mod state;
 mod text;
 mod tried;
 
-use bytes::Sweep;
-use list::List;
+use bytes::Logs;
+use dice::Dice;
+use digest::Digest;
+use handed::Block;
+use std::io;
 use tried::Tried;
 
+// Room for the log of 6,001 lines.
+const ROOM: usize = 102028;
+
+// What cannot be written is left out; whoever compares what is printed sees it.
 fn main(rt: HostRuntime) {
-    // 54,010 bytes for a schedule that is too long.
-    let mut schedule = [0u8; 54010];
-    let mut log = [0u8; 102028];
-    schedules(&rt, &mut schedule, &mut log);
-    states(&rt);
-    pairs(&rt, &mut log);
-    places(&rt, &mut log);
-    reports(&rt, &mut schedule);
-    editions(&rt);
+    let _ = print_all(&rt);
 }
 
-fn schedules(rt: &impl Print, schedule: &mut [u8], log: &mut [u8]) {
-    let mut i: u64 = 0;
-    while i < plan::SCHEDULES {
-        run(rt, i, schedule, log);
-        i += 1;
-    }
+fn print_all(rt: &(impl Print + AllocGlobal)) -> io::Result<()> {
+    let mut log = [0; ROOM];
+    schedules(rt, &mut log)?;
+    states(rt)?;
+    pairs(rt, &mut log)?;
+    places(rt, &mut log)?;
+    reports(rt)?;
+    editions(rt)
 }
 
-fn states(rt: &impl Print) {
-    let mut block: u64 = 0;
-    while block < handed::BLOCKS {
-        let told = handed::trials(block);
-        print(rt, block, told.accepted, told.digest);
-        block += 1;
-    }
-}
-
-fn pairs(rt: &impl Print, log: &mut [u8]) {
-    for a in 0..bytes::VALUES {
-        let first = (a % 256) as u8;
-        let told = bytes::swept(Sweep::Pair(first), log);
-        print(rt, a, told.length, told.digest);
-    }
-}
-
-fn places(rt: &impl Print, log: &mut [u8]) {
-    for at in 0..bytes::PLACES {
-        let told = bytes::swept(Sweep::Place(at as usize), log);
-        print(rt, at, told.length, told.digest);
-    }
-}
-
-fn reports(rt: &impl Print, schedule: &mut [u8]) {
-    for i in 0..list::LISTS {
-        run_list(rt, i, schedule);
-    }
-}
-
-fn editions(rt: &impl Print) {
-    for edition in 0..tried::EDITIONS {
-        run_edition(rt, edition);
-    }
-}
-
-// List number i: drawn, reported in its order and in another, and told.
-fn run_list(rt: &impl Print, i: u64, schedule: &mut [u8]) {
-    let list = List::drawn(i);
-    let mut table = [[0; 16]; 16];
-    let dice = start::drawn(list, &mut table, schedule);
-    let turn = dice.roll(list.size);
-    let told = reported::reported(list, table, schedule);
-    let other = reported::reported(list.turned(turn.got), table, schedule);
-    put(rt, i, told.refused, told.answers);
-    write(rt, b" ");
-    print(rt, told.table, other.refused, other.table);
-}
-
-// An edition, tried out and told.
-fn run_edition(rt: &impl Print, edition: u8) {
-    let tried = Tried::whole(edition);
-    put(rt, edition as u64, tried.accepted, tried.digest);
-    put_places(rt, tried);
-    write(rt, b"\n");
-}
-
-// The places with which every row was accepted.
-fn put_places(rt: &impl Print, tried: Tried) {
-    for place in 0..tried::PLACES {
-        if tried.in_all_rows(place) {
-            put_more(rt, place as u64);
+fn schedules(rt: &(impl Print + AllocGlobal), log: &mut [u8]) -> io::Result<()> {
+    for i in 0..plan::SCHEDULES {
+        let schedule = text::made(rt.alloc(), i)?;
+        if let Ok(n) = bench::bench(&schedule, log) {
+            show(rt, i, &schedule, &log[..n])?;
         }
     }
-}
-
-// Schedule number i: made, run and shown.
-fn run(rt: &impl Print, i: u64, schedule: &mut [u8], log: &mut [u8]) {
-    let length = text::make(plan::planned(i), schedule);
-    tell(rt, i, text::front(schedule, length), log);
-}
-
-fn tell(rt: &impl Print, i: u64, schedule: &[u8], log: &mut [u8]) {
-    let logged = bench::bench(schedule, log);
-    let n = logged.length;
-    show(rt, i, schedule, &log[..n]);
+    Ok(())
 }
 
 // The number of a schedule, its log's length and digest; the schedule's own digest, where its letters' case is drawn; and the
 // log itself for a few.
-fn show(rt: &impl Print, i: u64, schedule: &[u8], log: &[u8]) {
-    put(rt, i, log.len() as u64, digest::of(log));
-    if plan::CASED_FROM <= i {
-        put_more(rt, digest::of(schedule));
+fn show(rt: &impl Print, i: u32, schedule: &[u8], log: &[u8]) -> io::Result<()> {
+    let length = log.len();
+    let digest = Digest::of(log);
+    if i < plan::CASED_FROM {
+        println!(rt; "{i} {length} {digest}")?;
+    } else {
+        let own = Digest::of(schedule);
+        println!(rt; "{i} {length} {digest} {own}")?;
     }
-    write(rt, b"\n");
-    if i % 120 == 5 || i % 120 == 7 {
-        write(rt, log);
+    if matches!(i % 120, 5 | 7) {
+        rt.write_all(log)?;
     }
+    Ok(())
 }
 
-// One line of three numbers.
-fn print(rt: &impl Print, first: u64, second: u64, third: u64) {
-    put(rt, first, second, third);
-    write(rt, b"\n");
+fn states(rt: &impl Print) -> io::Result<()> {
+    for number in 0..handed::BLOCKS {
+        let Block { accepted, digest } = Block::tried(number);
+        println!(rt; "{number} {accepted} {digest}")?;
+    }
+    Ok(())
 }
 
-fn put(rt: &impl Print, first: u64, second: u64, third: u64) {
-    put_number(rt, first);
-    put_more(rt, second);
-    put_more(rt, third);
+fn pairs(rt: &impl Print, log: &mut [u8]) -> io::Result<()> {
+    for a in 0..=u8::MAX {
+        let Logs { length, digest } = Logs::swept(|b| bytes::pair(a, b), log);
+        println!(rt; "{a} {length} {digest}")?;
+    }
+    Ok(())
 }
 
-// One number more on a line.
-fn put_more(rt: &impl Print, number: u64) {
-    write(rt, b" ");
-    put_number(rt, number);
+fn places(rt: &impl Print, log: &mut [u8]) -> io::Result<()> {
+    for at in 0..bytes::PLACES {
+        let Logs { length, digest } = Logs::swept(|b| bytes::place(at, b), log);
+        println!(rt; "{at} {length} {digest}")?;
+    }
+    Ok(())
 }
 
-fn put_number(rt: &impl Print, number: u64) {
-    let _ = print!(rt; "{number}");
+fn reports(rt: &(impl Print + AllocGlobal)) -> io::Result<()> {
+    for i in 0..list::LISTS {
+        run_list(rt, i)?;
+    }
+    Ok(())
 }
 
-// What cannot be written is left out; whoever compares what is printed sees it.
-fn write(rt: &impl Print, bytes: &[u8]) {
-    let _ = rt.write_all(bytes);
+// List number i: drawn, reported in its order and in another, and told.
+fn run_list(rt: &(impl Print + AllocGlobal), i: u32) -> io::Result<()> {
+    let mut dice = Dice::seeded(i, 43);
+    let mut list = list::drawn(rt.alloc(), i, &mut dice)?;
+    let table = start::drawn(rt.alloc(), list[0].number, &mut dice)?;
+    let turn = dice.roll(list.len());
+    let told = reported::reported(rt.alloc(), &list, table)?;
+    list::turn(&mut list, turn);
+    let other = reported::reported(rt.alloc(), &list, table)?;
+    println!(rt;
+        "{i} {} {} {} {} {}",
+        told.refused, told.answers, told.table, other.refused, other.table
+    )
+}
+
+fn editions(rt: &(impl Print + AllocGlobal)) -> io::Result<()> {
+    for edition in 0..tried::EDITIONS {
+        let tried = Tried::of(rt.alloc(), edition)?;
+        print!(rt; "{edition} {} {}", tried.accepted, tried.digest)?;
+        for place in &tried.places {
+            print!(rt; " {place}")?;
+        }
+        println!(rt)?;
+    }
+    Ok(())
 }

@@ -1,107 +1,146 @@
 // What is drawn for a schedule before its first line.
-use crate::dice::Dice;
-use crate::state;
+ghost use Rattle.std.specs.Prelude.{◌<◌, ◌≤◌};
 
-pub const SCHEDULES: u64 = 800;
+use crate::dice::Dice;
+use crate::setup::{EDITIONS, QUEUED, Setup};
+use lock::Edition;
+
+pub const SCHEDULES: u32 = 800;
 
 // The schedules past those are crowded ones, and only reported: all processors, and as many events as there can be.
-pub const CROWDED: u64 = 16;
+pub const CROWDED: u32 = 16;
 
 // The schedules from this one on are of edition 3.
-const OLD_FROM: u64 = 480;
+const OLD_FROM: u32 = 480;
 
 // The schedules from this one on are in lower or in mixed case, and of all editions.
-pub const CASED_FROM: u64 = 640;
+pub const CASED_FROM: u32 = 640;
 
-const EDITIONS: u64 = state::OLD + 1;
+// A schedule has so many events at most.
+const MOST: usize = 6000;
 
-// The case of a schedule's letters: upper for those before `CASED_FROM` and for no other, then lower; the third is mixed.
-pub const UPPER: u64 = 0;
+// The case of a schedule's letters. It is upper for those before `CASED_FROM` and for no other.
+#[derive(Clone, Copy, PartialEq, Eq)]
+pub enum Case {
+    Upper,
+    Lower,
+    Mixed,
+}
 
-pub const LOWER: u64 = 1;
+impl Case {
+    fn drawn(i: u32, dice: &mut Dice) -> Case {
+        if i < CASED_FROM {
+            Case::Upper
+        } else {
+            dice.one_of(&[Case::Lower, Case::Mixed])
+        }
+    }
+}
+
+// What is wrong with a schedule.
+#[derive(Clone, Copy, PartialEq, Eq)]
+pub enum Damage {
+    Edition,
+    N,
+    Event,
+    Processor,
+    First,
+    AnyByte,
+    Cut,
+    NoDigit,
+    TooLong,
+    Check,
+}
+
+// By their numbers, 1 to 10.
+const DAMAGES: [Damage; 10] = [
+    Damage::Edition,
+    Damage::N,
+    Damage::Event,
+    Damage::Processor,
+    Damage::First,
+    Damage::AnyByte,
+    Damage::Cut,
+    Damage::NoDigit,
+    Damage::TooLong,
+    Damage::Check,
+];
+
+impl Damage {
+    fn drawn(i: u32, dice: &mut Dice) -> Option<Damage> {
+        if i % 4 == 3 {
+            Some(dice.one_of(&DAMAGES))
+        } else {
+            None
+        }
+    }
+}
 
 #[derive(Clone, Copy)]
 pub struct Plan {
-    pub edition: u64,
-    pub n: u64,
-    pub count: u64,
-    pub raises: u64,
-    pub stay: u64,
-    pub damage: u64,
-    pub victim: u64,
-    pub case: u64,
-    pub dice: Dice,
+    pub setup: Setup,
+    pub count: usize,
+    pub raises: usize,
+    pub stay: usize,
+    pub damage: Option<Damage>,
+    pub victim: usize,
+    pub case: Case,
+    ghost events: { 0 < count },
+    ghost within: { count ≤ 6000 },
+    ghost stays: { 0 < stay },
+    ghost hit: { victim ≤ count },
 }
 
-pub fn planned(i: u64) -> Plan {
-    let size = processors(Dice::seeded(i, 17), i);
-    let n = size.got;
-    let number = lines(size, i);
-    let count = number.got;
-    let few = number.roll(4);
-    let raises = few.got;
-    let slow = few.roll(8);
-    let stay = slow.got % 8 + 1;
-    let harm = harmed(slow, i);
-    let damage = harm.got;
-    let chosen = harm.roll(count);
-    let dice = lettered(chosen, i);
-    Plan {
-        edition: edition(i),
-        n,
-        count,
-        raises,
-        stay,
-        damage,
-        victim: chosen.got % 65536 + 1,
-        case: dice.got,
-        dice,
+impl Plan {
+    // For schedule i.
+    pub fn drawn(i: u32, dice: &mut Dice) -> Plan {
+        let setup = setup(i, dice);
+        let count = events(i, dice);
+        Plan {
+            setup,
+            count,
+            raises: dice.roll(4),
+            stay: 1 + dice.roll(8),
+            damage: Damage::drawn(i, dice),
+            victim: 1 + dice.roll(count),
+            case: Case::drawn(i, dice),
+        }
+    }
+}
+
+fn setup(i: u32, dice: &mut Dice) -> Setup {
+    let edition = edition(i);
+    if SCHEDULES <= i {
+        Setup { edition, n: 16 }
+    } else if dice.is_zero() {
+        Setup::drawn(edition, dice)
+    } else {
+        Setup {
+            edition,
+            n: 2 + dice.roll(3) as u8,
+        }
     }
 }
 
 // the editions with a queue in turn; then edition 3; then all, each for four schedules, since only the last of each four is damaged
-fn edition(i: u64) -> u64 {
+fn edition(i: u32) -> Edition {
     if i < OLD_FROM {
-        return i % state::OLD;
+        QUEUED[i as usize % 3]
+    } else if i < CASED_FROM {
+        Edition::Old
+    } else {
+        EDITIONS[i as usize / 4 % 4]
     }
-    if i < CASED_FROM {
-        return state::OLD;
-    }
-    i / 4 % EDITIONS
 }
 
-// N, in `got`
-fn processors(d: Dice, i: u64) -> Dice {
-    if SCHEDULES <= i {
-        return d.giving(16);
+// how many event lines there are
+fn events(i: u32, dice: &mut Dice) -> usize
+    ensures some { 0 < result }
+    ensures within { result ≤ 6000 }
+{
+    if SCHEDULES <= i || i % 40 == 38 {
+        MOST
+    } else {
+        20 + dice.roll(480)
     }
-    let coin = d.roll(2);
-    if coin.got == 0 {
-        return coin.roll(16).plus(1);
-    }
-    coin.roll(3).plus(2)
-}
-
-// the number of event lines
-fn lines(d: Dice, i: u64) -> Dice {
-    if (SCHEDULES <= i) | (i % 40 == 38) {
-        return d.giving(6000);
-    }
-    d.roll(480).plus(20)
-}
-
-// the kind of damage, 0 for none
-fn harmed(d: Dice, i: u64) -> Dice {
-    if i % 4 == 3 {
-        return d.roll(10).plus(1);
-    }
-    d.giving(0)
-}
-
-// the case of the letters
-fn lettered(d: Dice, i: u64) -> Dice {
-    if i < CASED_FROM {
-        return d.giving(UPPER);
-    }
-    d.roll(2).plus(LOWER)
 }

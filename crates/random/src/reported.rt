@@ -1,86 +1,74 @@
 // Schedules reported: one alone, or a list one after the other, with the digests of what is answered.
-use crate::list::List;
-use crate::{cells, digest, list, plan, text};
-use report::{Measured, Tally};
+ghost use Rattle.std.specs.Prelude.{◌<◌};
+
+use crate::digest::Digest;
+use crate::list::Entry;
+use crate::text;
+use report::{Table, Tally};
+use std::alloc::{AllocError, Global};
 
 // What is told of a list: how many schedules are refused, the digest of all answers, and that of the table at the end.
 #[derive(Clone, Copy)]
 pub struct Told {
-    pub refused: u64,
-    pub answers: u64,
-    pub table: u64,
+    pub refused: usize,
+    pub answers: Digest,
+    pub table: Digest,
 }
 
-// The report of the schedule with that number.
-fn measured(number: u64, table: [[u32; 16]; 16], lent: u64, schedule: &mut [u8]) -> Measured {
-    let length = text::make(plan::planned(number), schedule);
-    let rows = (lent % list::LENT) as usize;
-    report::by_value(text::front(schedule, length), table, rows)
-}
-
-// The table after one schedule alone: where it is refused, zeros.
-pub fn alone(number: u64, schedule: &mut [u8]) -> [[u32; 16]; 16] {
-    let m = measured(number, [[0; 16]; 16], 16, schedule);
-    let told = m.told;
-    told.table_of()
+// The table after one schedule alone, with all rows lent: where it is refused, zeros.
+pub fn alone(alloc: Global, number: u32) -> Result<Table, AllocError> {
+    let schedule = text::made(alloc, number)?;
+    match report::by_value(&schedule, [[0; 16]; 16], 16) {
+        Ok(measured) => Ok(measured.table),
+        Err(refused) => Ok(refused.table),
+    }
 }
 
 // All schedules of a list, in its order.
-pub fn reported(list: List, start: [[u32; 16]; 16], schedule: &mut [u8]) -> Told {
-    let size = list.size;
+pub fn reported(alloc: Global, list: &[Entry], start: Table) -> Result<Told, AllocError> {
     let mut table = start;
-    let mut refused: u64 = 0;
-    let mut answers = digest::NOTHING;
-    for k in 0..size {
-        let lent = list.lent_to(k);
-        let m = measured(list.number(k), table, lent, schedule);
-        let told = m.told;
-        let next = told.table_of();
-        table = next;
-        refused = counted(refused, told.refusal);
-        answers = with_answer(answers, m, lent);
+    let mut refused: usize = 0;
+    let mut answers = Digest::new();
+    for entry in list {
+        let schedule = text::made(alloc, entry.number)?;
+        match report::by_value(&schedule, table, entry.lent) {
+            Ok(m) => {
+                table = m.table;
+                add_answer(&mut answers, 0, 0, m.tallies(), *entry);
+            }
+            Err(r) => {
+                table = r.table;
+                refused = refused.saturating_add(1);
+                add_answer(&mut answers, r.refusal.into(), r.line, &[], *entry);
+            }
+        }
     }
-    Told {
+    Ok(Told {
         refused,
         answers,
-        table: with_table(digest::NOTHING, table),
-    }
-}
-
-// One more where it is a refusal.
-fn counted(refused: u64, refusal: u8) -> u64 {
-    if refusal == 0 {
-        return refused;
-    }
-    refused % 65536 + 1
+        table: digest(table),
+    })
 }
 
 // An answer more: the refusal, its line, how many rows are laid down, and all rows lent.
-fn with_answer(h: u64, m: Measured, lent: u64) -> u64 {
-    let told = m.told;
-    let line = told.line;
-    let refusal = digest::mixed(h, told.refusal);
-    let high = digest::mixed(refusal, (line / 256 % 256) as u8);
-    let low = digest::mixed(high, (line % 256) as u8);
-    let mut sum = digest::mixed(low, (m.count % 256) as u8);
-    for r in 0..lent {
-        sum = with_tally(sum, row(m, r));
+fn add_answer(digest: &mut Digest, refusal: u8, line: usize, tallies: &[Tally], entry: Entry) {
+    let count = tallies.len();
+    digest.add(&[refusal]);
+    digest.add(&line.to_be_bytes()[6..]);
+    digest.add(&count.to_be_bytes()[7..]);
+    for tally in tallies {
+        add_tally(digest, *tally);
     }
-    sum
-}
-
-// Lent row r as it then is.
-fn row(m: Measured, r: u64) -> Tally {
-    if r < m.count as u64 {
-        let tallies = m.tallies();
-        return tallies[(r % 16) as usize];
+    for r in count..entry.lent {
+        add_tally(digest, as_lent(r));
     }
-    lent_row((r % list::LENT) as u32)
 }
 
 // Lent row r as it was.
-fn lent_row(r: u32) -> Tally {
-    let before = r % 256 * 3;
+fn as_lent(r: usize) -> Tally
+    requires { r < 18 }
+{
+    let before = 3 * r as u32;
     Tally {
         entries: before + 1,
         interrupts: before + 2,
@@ -88,17 +76,16 @@ fn lent_row(r: u32) -> Tally {
     }
 }
 
-fn with_tally(h: u64, tally: Tally) -> u64 {
-    digest::with_number(
-        digest::with_number(digest::with_number(h, tally.entries), tally.interrupts),
-        tally.joins,
-    )
+fn add_tally(digest: &mut Digest, tally: Tally) {
+    digest.add_number(tally.entries);
+    digest.add_number(tally.interrupts);
+    digest.add_number(tally.joins);
 }
 
-fn with_table(h: u64, table: [[u32; 16]; 16]) -> u64 {
-    let mut sum = h;
-    for cell in 0..cells::CELLS {
-        sum = digest::with_number(sum, cells::count(table, cell));
+fn digest(table: Table) -> Digest {
+    let mut digest = Digest::new();
+    for count in table.as_flattened() {
+        digest.add_number(*count);
     }
-    sum
+    digest
 }

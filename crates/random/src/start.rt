@@ -1,45 +1,35 @@
 // The table from which a list is reported (docs/RANDOM.md, "Reports"): zeros, or counts near the greatest, so that sums pass it.
 use crate::dice::Dice;
-use crate::list::List;
-use crate::{cells, reported};
+use crate::reported;
+use report::Table;
+use std::alloc::{AllocError, Global};
 
-const GREATEST: u32 = 4294967295;
-
-// Draws the table into one of zeros, and answers the dice after it.
-pub fn drawn(list: List, table: &mut [[u32; 16]; 16], schedule: &mut [u8]) -> Dice {
-    let before = list.dice;
-    let start = before.roll(4);
-    let s = start.got;
-    match s {
-        2 => near(start, table),
-        3 => {
-            let charges = reported::alone(list.number(0), schedule);
-            edge(start, table, charges)
-        }
-        _ => start,
+// For a list that begins with the schedule of that number.
+pub fn drawn(alloc: Global, number: u32, dice: &mut Dice) -> Result<Table, AllocError> {
+    let mut table = [[0; 16]; 16];
+    match dice.roll(4) {
+        2 => near(&mut table, dice),
+        3 => edge(&mut table, reported::alone(alloc, number)?, dice),
+        _ => {}
     }
+    Ok(table)
 }
 
 // Each cell near the greatest count.
-fn near(d: Dice, table: &mut [[u32; 16]; 16]) -> Dice {
-    let mut dice = d;
-    for cell in 0..cells::CELLS {
-        let short = dice.roll(32);
-        cells::put(table, cell, GREATEST - (short.got % 32) as u32);
-        dice = short;
+fn near(table: &mut Table, dice: &mut Dice) {
+    for count in table.as_flattened_mut() {
+        *count = u32::MAX - dice.roll(32) as u32;
     }
-    dice
 }
 
-// One cell, that to which the list's first schedule adds most: the sum is then just the greatest count, or passes it by one.
-fn edge(d: Dice, table: &mut [[u32; 16]; 16], charges: [[u32; 16]; 16]) -> Dice {
-    let cell = cells::most(charges);
-    let c = cells::count(charges, cell);
-    if c == 0 {
-        cells::put(table, cell, GREATEST);
-        return d;
+// One cell, that to which the list's first schedule adds most, of several the first: the sum is then just the greatest count, or
+// passes it by one.
+fn edge(table: &mut Table, charges: Table, dice: &mut Dice) {
+    let charges = charges.as_flattened();
+    let most = charges.iter().copied().max().unwrap_or(0);
+    let over = if most == 0 { 0 } else { dice.roll(2) as u32 };
+    let mut cells = table.as_flattened_mut().iter_mut().zip(charges);
+    if let Some((count, _)) = cells.find(|(_, charge)| **charge == most) {
+        *count = u32::MAX - most + over;
     }
-    let over = d.roll(2);
-    cells::put(table, cell, GREATEST - (c - (over.got % 2) as u32));
-    over
 }

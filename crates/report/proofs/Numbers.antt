@@ -6,9 +6,7 @@ use Prim.Native.Nat.{ℕ}
 use mathlib.Core.Path.{◌≡◌, refl, sym, ap, ◌∙◌}
 use mathlib.Core.Bool.{false, cond}
 use lib.Dec.{eqb}
-use Rattle.lock.specs.declared.Refusal.{Refusal as LockRefusal}
 use Rattle.lock.specs.declared.Refusal.TheVariants.{UnknownEdition, ProcessorCount, UnknownEvent, NoSuchProcessor, Unsound}
-use Rattle.frame.specs.declared.Refusal.{Refusal as LineRefusal}
 use Rattle.frame.specs.declared.Refusal.TheVariants.{Torn, NotDigits, WrongCheck, WrongKind}
 use Rattle.bench.specs.declared.Refusal.{Refusal as ScheduleRefusal}
 use Rattle.bench.specs.declared.Refusal.TheVariants.{TooLong, Line, Lock}

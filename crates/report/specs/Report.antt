@@ -1,5 +1,5 @@
 -- The report of one schedule: request [4]'s counts and rows by the definition over its steps, and the refusals in their order.
-use Rattle.std.specs.Prelude.{ℕ, ◌+◌, cond, List, ◌++◌, Result, Ok, Err, length, take, drop, replicate, eqb, ltb}
+use Rattle.std.specs.Prelude.{ℕ, cond, List, ◌++◌, Result, Ok, Err, length, take, drop, replicate, eqb, ltb}
 use Rattle.lock.specs.declared.LockState.{LockState}
 use Rattle.lock.specs.State.{processors}
 use Rattle.lock.specs.Run.{Call}

@@ -17,6 +17,14 @@ pub(crate) struct Did {
     pub interrupted: bool,
 }
 
+// An accepted call: its processor, and what it was for.
+#[derive(Clone, Copy, Debug, PartialEq, Eq)]
+pub(crate) struct Accepted {
+    pub p: usize,
+    pub did: Did,
+    ghost below: { p < 16 },
+}
+
 // What is known of a processor so far: its tally; whether it has joined; the entries of each processor since its latest join; and
 // the entries of each that its own entries were charged with.
 #[derive(Clone, Copy, Debug, PartialEq, Eq)]
@@ -54,20 +62,20 @@ impl Account {
         }
     }
 
-    // After a call of processor p, which is this one or another. What is pending is dropped at the processor's own join, and else
-    // an entry of p is one more; and all that is pending is charged at an entry that a join led to.
+    // After a call, which is the processor's own or another's. That there is room for it is no invariant of an account: after it
+    // there may be none.
     #[tactic(auto, unfolding(crate::specs::Accounts::seen_by))]
-    fn seen(&self, own: bool, p: usize, did: Did) -> Account
-        requires below { p < 16 }
-        requires room { Fits self.now }
-        ensures { result ≡ seen_by self.now «own» p did }
+    fn seen(&self, own: bool, call: Accepted) -> Account
+        requires { Fits self.now }
+        ensures { result ≡ seen_by self.now «own» call.p call.did }
     {
+        let did = call.did;
         let joins = own & did.joined;
         let enters = own & did.entered;
         Account {
             tally: with_call(self.tally, enters, own & did.interrupted, joins),
             joined: self.joined | joins,
-            pending: pending_then(&self.pending, p, did.entered, joins),
+            pending: pending_then(&self.pending, call, joins),
             charged: charged_then(&self.charged, &self.pending, enters & self.joined & !joins),
         }
     }
@@ -85,19 +93,18 @@ fn with_call(tally: Tally, enters: bool, taken: bool, joins: bool) -> Tally
     }
 }
 
-// What is pending: dropped at the processor's own join; otherwise p's entry is one more.
+// What is pending: dropped at the processor's own join; otherwise an entry is one more.
 #[tactic(auto, unfolding(crate::specs::Accounts::pending_then, crate::specs::Accounts::raised_at))]
-fn pending_then(pending: &[u32; 16], p: usize, entered: bool, joins: bool) -> [u32; 16]
-    requires below { p < 16 }
-    requires room { get_or pending.now p 0 < greatest }
-    ensures { result ≡ pending_then pending.now p «entered» «joins» }
+fn pending_then(pending: &[u32; 16], call: Accepted, joins: bool) -> [u32; 16]
+    requires { get_or pending.now call.p 0 < greatest }
+    ensures { result ≡ pending_then pending.now call.p call.did.entered «joins» }
 {
     if joins {
         return [0; 16];
     }
     let mut next = *pending;
-    if entered {
-        next[p] += 1;
+    if call.did.entered {
+        next[call.p] += 1;
     }
     next
 }
@@ -108,16 +115,19 @@ fn charged_then(charged: &[u32; 16], pending: &[u32; 16], charges: bool) -> [u32
     requires { Summable charged.now pending.now }
     ensures { result ≡ charged_then charged.now pending.now «charges» }
 {
-    if charges { tables::row_sum(charged, pending) } else { *charged }
+    if charges {
+        tables::row_sum(charged, pending)
+    } else {
+        *charged
+    }
 }
 
-// All accounts after a call of processor p.
-pub(crate) fn noted(accounts: &[Account; 16], p: usize, did: Did) -> [Account; 16]
-    requires below { p < 16 }
-    requires room { AllFit accounts.now }
-    ensures { result ≡ noted_by accounts.now p did }
+// All accounts after a call.
+pub(crate) fn noted(accounts: &[Account; 16], call: Accepted) -> [Account; 16]
+    requires { AllFit accounts.now }
+    ensures { result ≡ noted_by accounts.now call.p call.did }
 {
-    array::from_fn(|b| accounts[b].seen(b == p, p, did))
+    array::from_fn(|b| accounts[b].seen(b == call.p, call))
 }
 
 // What a's entries made each processor wait.

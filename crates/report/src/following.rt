@@ -7,13 +7,10 @@ ghost use Rattle.bench.specs.Log.{longest};
 ghost use Rattle.report.specs.Followed.{told, followed_of, Agrees, Follows};
 
 use crate::counting;
-use crate::counting::Account;
-use bench::Refusal;
+use crate::counting::{Accepted, Account};
+use bench::{LONGEST, Refusal};
 use frame::Frame;
 use lock::LockState;
-
-// A schedule has at most 6,001 lines.
-const LONGEST: usize = 54009;
 
 // A schedule's refusal and its line.
 #[derive(Clone, Copy, Debug, PartialEq, Eq)]
@@ -58,7 +55,8 @@ fn follow(first: LockState, text: &[u8]) -> Result<Followed, Stopped>
         let to = state.row(p);
         let did = counting::told_apart(event, from.place, to.place);
         if did.joined | did.entered | did.interrupted {
-            accounts = counting::noted(&accounts, usize::from(p), did);
+            let p = usize::from(p);
+            accounts = counting::noted(&accounts, Accepted { p, did });
         }
         accepted += 1;
         rest = frame::rest(rest);

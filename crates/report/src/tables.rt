@@ -12,7 +12,9 @@ const GREATEST: u64 = 4294967295;
 fn row_holds(t: &[u32; 16], m: &[u32; 16]) -> bool
     ensures { result ≡ row_holds t.now m.now }
 {
-    t.iter().zip(m).all(|(x, y)| u64::from(*x) + u64::from(*y) <= GREATEST)
+    t.iter()
+        .zip(m)
+        .all(|(x, y)| u64::from(*x) + u64::from(*y) <= GREATEST)
 }
 
 // The sums of two rows.

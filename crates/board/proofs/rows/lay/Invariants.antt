@@ -1,10 +1,7 @@
 -- The loop of `board::rows::lay`: the tallies below i are laid down, the rest is as it was.
-use Rattle.std.proofs.Common.{◌≡◌, ◌++◌, ◌*◌, ◌-◌, ◌≤◌, take, drop}
+use Rattle.std.proofs.Common.{◌≡◌, ◌++◌, ◌*◌, take, drop}
 use Rattle.board.specs.Numbers.{numbers_of}
 use Rattle.board.proofs.rows.lay.Given as goal
 
 abbrev pub invariant-loop-i : goal.invariant-loop-i
-invariant-loop-i l = (l.i ≤ l.count) × (l.rows ≡ numbers_of (take l.i l.tallies) ++ drop (3 * l.i) l.fn.rows)
-
-abbrev pub decreases-loop-i : goal.decreases-loop-i
-decreases-loop-i l = l.count - l.i
+invariant-loop-i l = l.rows ≡ numbers_of (take l.i l.tallies) ++ drop (3 * l.i) l.fn.rows

@@ -2,7 +2,7 @@
 use Rattle.std.proofs.Common.{rules}
 use Rattle.lock.specs.State.{processors}
 use Rattle.report.specs.Accounts.{noted_by}
-use Rattle.report.proofs.Made.{made, asked}
+use Rattle.report.proofs.Made.{made}
 use Rattle.report.proofs.counting.noted.Goals as goal
 
 pub returns : goal.returns

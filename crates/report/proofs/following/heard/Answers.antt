@@ -6,7 +6,7 @@ use Rattle.lock.specs.Event.{Answer, fresh, told as lock_told}
 use Rattle.lock.specs.Named.{refusal_number}
 use Rattle.lock.proofs.Keeping.{fresh_kept}
 use Rattle.frame.specs.declared.Frame.{Frame}
-use Rattle.frame.specs.Reading.{reads, rest_of, told as frame_told, number as line_number}
+use Rattle.frame.specs.Reading.{reads, told as frame_told, number as line_number}
 use Rattle.bench.specs.declared.Refusal.TheVariants.{Line, Lock}
 use Rattle.bench.specs.Named.{number}
 use Rattle.bench.specs.Log.{longest}

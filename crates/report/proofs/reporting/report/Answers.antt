@@ -10,8 +10,7 @@ unfolding rows_after
 returns-in_err-measured c =
     let rows = c.args.rows.now in
     let p = err_from_is_err_and c.from_residual.result c.from_residual.ensures.1 in
-    rw (p.1, p.2)
-    (
+    rw (p.1, p.2) (
       ap (λ (x : Measured). x.told) c.in_err-measured.ensures.value,
       ap (λ (x : Measured). take x.count x.rows ++ drop x.count rows) c.in_err-measured.ensures.value,
     )
