@@ -20,7 +20,7 @@ use Rattle.lock.proofs.Roof.Callers.{calls_are_a_run}
 use Rattle.frame.specs.Reading.{reads, rest_of}
 use Rattle.frame.specs.Writing.{leaves, header_line}
 use Rattle.frame.proofs.Proved.{lengths_are_known}
-use Rattle.bench.specs.Log.{refused_at, log_from, begun}
+use Rattle.bench.specs.Log.{refused_at, begun}
 use Rattle.bench.specs.Steps.{Fills, later_log, opened_log}
 use Rattle.bench.proofs.Frames.{framed, open_begins}
 use Rattle.bench.proofs.Fuel.{fuel_same}

@@ -1,10 +1,9 @@
 -- A line written into the part of a buffer that begins at a place, and the buffer when the part is back.
---     wrote        a line that fits, as the writer leaves it, fills the buffer's first bytes
---     part_is      the part lent from a place to the end is what the buffer holds from that place on
---     put_whole    the buffer when the part is back: as it was up to the place, and then the part
---     laid_is      the buffer with a line in it: as it was up to the place, the line, and as it was after it
---     put          so its length, what it holds up to the line's end, and what it holds from there on
---     filled_by    a buffer that is written up to a place holds a log, and is as it was from there on
+--     leaves_fills, wrote    a line that fits, as the writer leaves it, fills the buffer's first bytes
+--     part, back, laid       the part from a place on, the buffer when it is back, the buffer with a line in it from there on
+--     part_is, put_whole     the part is what the buffer holds from the place on; back, it stands behind what was before it
+--     put                    so with a line in it: its length, what it holds up to the line's end, what it holds from there on
+--     filled_by              a buffer that is written up to a place holds a log, and is as it was from there on
 -- Assumes nothing.
 use Prim.Native.Nat.{ℕ, ◌+◌, ◌-◌, ◌≤◌}
 use native.Mathlib.Omega.{arith}

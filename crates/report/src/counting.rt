@@ -127,7 +127,12 @@ pub(crate) fn noted(accounts: &[Account; 16], call: Accepted) -> [Account; 16]
     requires { AllFit accounts.now }
     ensures { result ≡ noted_by accounts.now call.p call.did }
 {
-    array::from_fn(|b| accounts[b].seen(b == call.p, call))
+    // A loop, since `array::from_fn` clears what it makes first, and an event then takes three times the instructions.
+    let mut next = *accounts;
+    for b in 0..16 {
+        next[b] = accounts[b].seen(b == call.p, call);
+    }
+    next
 }
 
 // What a's entries made each processor wait.

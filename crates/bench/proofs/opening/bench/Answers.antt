@@ -1,8 +1,7 @@
 -- `bench::opening::bench` meets its contract: the room is tested first, then refusal 1, and then the log is opened.
-use Rattle.std.proofs.Common.{◌∙◌, arith, le-ltb, lt-ltb}
+use Rattle.std.proofs.Common.{le-ltb, lt-ltb}
 use Rattle.bench.specs.Log.{refused_at}
 use Rattle.bench.specs.Steps.{opened_log}
-use Rattle.bench.proofs.Sizes.{refusal_size}
 use Rattle.bench.proofs.Whole.{is_short, is_logged, is_long, is_opened, has_room, long_room}
 use Rattle.bench.proofs.opening.bench.Goals as goal
 

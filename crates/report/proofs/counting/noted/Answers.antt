@@ -1,10 +1,10 @@
--- `report::counting::noted` meets its contract: each account as the closure gives it.
-use Rattle.std.proofs.Common.{rules}
+-- `report::counting::noted` meets its contract: the accounts that the loop has stored are those of the definition.
+use Rattle.std.proofs.Common.{arith}
 use Rattle.lock.specs.State.{processors}
-use Rattle.report.specs.Accounts.{noted_by}
-use Rattle.report.proofs.Made.{made}
+use Rattle.report.specs.Accounts.{absent, noted_by}
+use Rattle.report.proofs.Upto.{upto_all}
 use Rattle.report.proofs.counting.noted.Goals as goal
 
 pub returns : goal.returns
 unfolding noted_by
-returns c = made _ _ _ _ processors (λ b y q l call. search rules) c.from_fn.ensures.items
+returns c = upto_all _ processors _ absent c.loop-b.invariant.long (λ i l. c.loop-b.invariant.stored i (omega arith))
