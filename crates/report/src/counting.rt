@@ -62,22 +62,20 @@ impl Account {
         }
     }
 
-    // After a call, which is the processor's own or another's. That there is room for it is no invariant of an account: after it
-    // there may be none.
+    // A call, which is the processor's own or another's. What is pending is charged before it changes. That there is room for the
+    // call is no invariant of an account: after it there may be none.
     #[tactic(auto, unfolding(crate::specs::Accounts::seen_by))]
-    fn seen(&self, own: bool, call: Accepted) -> Account
-        requires { Fits self.now }
-        ensures { result ≡ seen_by self.now «own» call.p call.did }
+    fn see(&mut self, own: bool, call: Accepted)
+        requires { Fits self.old }
+        ensures { self.new ≡ seen_by self.old «own» call.p call.did }
     {
-        let did = call.did;
-        let joins = own & did.joined;
-        let enters = own & did.entered;
-        Account {
-            tally: with_call(self.tally, enters, own & did.interrupted, joins),
-            joined: self.joined | joins,
-            pending: pending_then(&self.pending, call, joins),
-            charged: charged_then(&self.charged, &self.pending, enters & self.joined & !joins),
-        }
+        let joins = own & call.did.joined;
+        let enters = own & call.did.entered;
+        let charges = enters & self.joined & !joins;
+        self.tally = with_call(self.tally, enters, own & call.did.interrupted, joins);
+        self.joined |= joins;
+        charge(&mut self.charged, &self.pending, charges);
+        pend(&mut self.pending, call, joins);
     }
 }
 
@@ -95,44 +93,36 @@ fn with_call(tally: Tally, enters: bool, taken: bool, joins: bool) -> Tally
 
 // What is pending: dropped at the processor's own join; otherwise an entry is one more.
 #[tactic(auto, unfolding(crate::specs::Accounts::pending_then, crate::specs::Accounts::raised_at))]
-fn pending_then(pending: &[u32; 16], call: Accepted, joins: bool) -> [u32; 16]
-    requires { get_or pending.now call.p 0 < greatest }
-    ensures { result ≡ pending_then pending.now call.p call.did.entered «joins» }
+fn pend(pending: &mut [u32; 16], call: Accepted, joins: bool)
+    requires { get_or pending.old call.p 0 < greatest }
+    ensures { pending.new ≡ pending_then pending.old call.p call.did.entered «joins» }
 {
     if joins {
-        return [0; 16];
+        *pending = [0; 16];
+    } else if call.did.entered {
+        pending[call.p] += 1;
     }
-    let mut next = *pending;
-    if call.did.entered {
-        next[call.p] += 1;
-    }
-    next
 }
 
 // What is charged: all that is pending, at an entry that a join led to.
 #[tactic(auto, unfolding(crate::specs::Accounts::charged_then))]
-fn charged_then(charged: &[u32; 16], pending: &[u32; 16], charges: bool) -> [u32; 16]
-    requires { Summable charged.now pending.now }
-    ensures { result ≡ charged_then charged.now pending.now «charges» }
+fn charge(charged: &mut [u32; 16], pending: &[u32; 16], charges: bool)
+    requires { Summable charged.old pending.now }
+    ensures { charged.new ≡ charged_then charged.old pending.now «charges» }
 {
     if charges {
-        tables::row_sum(charged, pending)
-    } else {
-        *charged
+        *charged = tables::row_sum(charged, pending);
     }
 }
 
-// All accounts after a call.
-pub(crate) fn noted(accounts: &[Account; 16], call: Accepted) -> [Account; 16]
-    requires { AllFit accounts.now }
-    ensures { result ≡ noted_by accounts.now call.p call.did }
+// A call, seen by all accounts.
+pub(crate) fn note(accounts: &mut [Account; 16], call: Accepted)
+    requires { AllFit accounts.old }
+    ensures { accounts.new ≡ noted_by accounts.old call.p call.did }
 {
-    // A loop, since `array::from_fn` clears what it makes first, and an event then takes three times the instructions.
-    let mut next = *accounts;
-    for b in 0..16 {
-        next[b] = accounts[b].seen(b == call.p, call);
+    for (b, account) in accounts.iter_mut().enumerate() {
+        account.see(b == call.p, call);
     }
-    next
 }
 
 // What a's entries made each processor wait.

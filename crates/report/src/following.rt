@@ -56,7 +56,7 @@ fn follow(first: LockState, text: &[u8]) -> Result<Followed, Stopped>
         let did = counting::told_apart(event, from.place, to.place);
         if did.joined | did.entered | did.interrupted {
             let p = usize::from(p);
-            accounts = counting::noted(&accounts, Accepted { p, did });
+            counting::note(&mut accounts, Accepted { p, did });
         }
         accepted += 1;
         rest = frame::rest(rest);

@@ -105,8 +105,8 @@ returns-in_err-accepted_event c =
     (turned_away _ _ _ _ _ _ l.invariant c.loop-rest-test.true f read (record { refusal = x.0; state = l.state }) d
     (refused_says l.state f.first f.second x.0 x.1) is.0 is.1)
 
-pub invariant_of-noted : goal.invariant_of-noted
-invariant_of-noted c =
+pub invariant_of-note : goal.invariant_of-note
+invariant_of-note c =
     let l = c.loop-rest in
     let f = c.in_ok-event.field-0 in
     let read = mapped_ok frame_told (reads l.rest.now false) c.map_err.result _ c.read.result _ c.map_err.ensures.cases c.in_ok-event.was c.read.ensures in
@@ -115,8 +115,8 @@ invariant_of-noted c =
     let is = low (taken _ _ _ _ _ _ l.invariant c.loop-rest-test.true f read c.requires.within c.does-state.result next) in
     record { below = rw c.from-p.ensures is }
 
-pub noted-accounts-requires : goal.noted-accounts-requires
-noted-accounts-requires c =
+pub note-requires : goal.note-requires
+note-requires c =
     let l = c.loop-rest in
     let f = c.in_ok-event.field-0 in
     let read = mapped_ok frame_told (reads l.rest.now false) c.map_err.result _ c.read.result _ c.map_err.ensures.cases c.in_ok-event.was c.read.ensures in
@@ -140,7 +140,7 @@ loop-rest-preserved c =
     (elim c.if-did.branch [
       | then-did w ↦
           changed line d.result did_is c.if-did.accounts
-          (w.accounts-is ∙ w.noted-accounts.ensures ∙ ap (λ (k : ℕ). noted_by l.accounts k d.result) w.from-p.ensures)
+          (w.accounts-is ∙ w.note.ensures ∙ ap (λ (k : ℕ). noted_by l.accounts k d.result) w.from-p.ensures)
       | else-did w ↦ w.accounts-is ∙ quiet line d.result did_is w.if-did.false
     ])
     c.rest-rest.result.now c.rest-rest.ensures
