@@ -14,8 +14,7 @@ fn first(schedule: &[u8]) -> Result<LockState, Refusal>
     ensures { Opens schedule.now result }
 {
     let line = frame::read(schedule, true)?;
-    let state = LockState::fresh(line.first, line.second)?;
-    Ok(state)
+    Ok(LockState::fresh(line.first, line.second)?)
 }
 
 // Line 1 of its numbers, in upper case whatever it was read in, then the later lines; or the refusal of line 1 alone.

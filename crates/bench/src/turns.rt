@@ -1,5 +1,5 @@
-// From line to line: the loop over the later lines. The state stands in the loop, and what an event makes of it goes straight into it:
-// asked first and done then, since an answer with a state in it would be copied with all its rows.
+// From line to line: the loop over the later lines. The state stands in the loop: an event's answer goes straight into it, and
+// no function above `carried` takes or hands on a state in the loop, since each would copy all its rows.
 ghost use Rattle.std.specs.Prelude.{◌≡◌, ◌≤◌, length};
 ghost use Rattle.lock.specs.Kept.{Whole};
 ghost use Rattle.bench.specs.Steps.{Fills, Turns, later_log, lines_room};
@@ -15,8 +15,7 @@ fn turn(state: &mut LockState, text: &[u8]) -> Result<Frame, Refusal>
     ensures { Turns state.old text.now state.new result }
 {
     let line = frame::read(text, false)?;
-    let event = state.accepts(line.first, line.second)?;
-    *state = state.does(event, line.second);
+    *state = state.carried(line.first, line.second)?;
     Ok(line)
 }
 

@@ -56,6 +56,7 @@ pub(crate) fn joined(high: u8, low: u8) -> u8
 }
 
 // The first N pairs of a text, where they are digits throughout: one pass, which looks at each byte once.
+#[inline(always)]
 pub(crate) fn read_pairs<const N: usize>(text: &[u8]) -> Option<[u8; N]>
     requires { 2 * N ≤ length text.now }
     ensures { result ≡ pairs_of N text.now }

@@ -5,7 +5,6 @@
 --     Sets             a set of numbers, as a list and as the code tells it
 --     Editions         which places an edition has: the rule is document 01's lists
 --     Calls            what becomes of a call: refused, a raise, or a step
---     Accepted         an event by its test alone
 pub mod Rows
 pub mod Writes
 pub mod Places
@@ -13,4 +12,3 @@ pub mod Facts
 pub mod Sets
 pub mod Editions
 pub mod Calls
-pub mod Accepted

@@ -58,7 +58,7 @@ carried s event p =
     (cond (leb s.n p) (refused 9 s)
     (accepted (does s event p)))
 
--- The same as a test alone: the event of that number where it is accepted, and else the refusal.
+-- The test alone, as the code makes it: the event of that number where it is accepted, and else the refusal.
 abbrev pub Accepts : LockState → ℕ → ℕ → Result Event Refusal → Type 0
 Accepts s event p (Ok e) = (event ≡ event_number e) × ((carried s event p).refusal ≡ 0)
 Accepts s event p (Err r) = (carried s event p).refusal ≡ refusal_number r

@@ -6,7 +6,7 @@ use Rattle.lock.specs.declared.Row.{Row}
 use Rattle.lock.specs.declared.LockState.{LockState}
 use Rattle.lock.specs.State.{row, put_row, put_tail}
 use Rattle.lock.specs.Sound.{sound}
-use Rattle.lock.specs.Event.{told, Accepts, does, fresh, carried, happens}
+use Rattle.lock.specs.Event.{told, fresh, carried, happens}
 use Rattle.lock.specs.Named.{NamesEdition, NamesEvent, NamesPlace}
 use Rattle.lock.specs.declared.Edition.{Edition}
 use Rattle.lock.specs.declared.Event.{Event}
@@ -33,11 +33,9 @@ pub record OnlyOnePut : Type 0 where
   pub of_put_row : (s : LockState) (p : ℕ) (r : Row) → OnlyOne _ (put_row s p r)
   pub of_put_tail : (s : LockState) (q : ℕ) → OnlyOne _ (put_tail s q)
 
--- two answers that say the same are the same, and so are two outcomes of the test alone
-pub record OnlyOneSays : Type 0 where
-  pub of_answer : (a b : Result LockState Refused) → told a ≡ told b → a ≡ b
-  pub of_accepts : (s : LockState) (event p : ℕ) (a b : Result Event Refusal) → Accepts s event p a → Accepts s event p b → a ≡ b
-  pub of_does : (s : LockState) (event p : ℕ) → OnlyOne _ (does s event p)
+-- two answers that say the same are the same
+abbrev pub OnlyOneSays : Type 0
+OnlyOneSays = (a b : Result LockState Refused) → told a ≡ told b → a ≡ b
 
 -- and what a number is taken for is one thing
 pub record OnlyOneNamed : Type 0 where

@@ -36,11 +36,11 @@ impl LockState {
 
     // The same state back.
     fn refused(self, refusal: Refusal) -> Refused
-        ensures { result ≡ record { refusal = refusal; state = self } }
+        ensures { result ≡ record { state = self; refusal = refusal } }
     {
         Refused {
-            refusal,
             state: self,
+            refusal,
         }
     }
 
@@ -51,8 +51,8 @@ impl LockState {
         self.put_flag(p, true)
     }
 
-    // Whether a state of which the soundness is not asked accepts an event: the event of that number; or 8, 9.
-    pub fn accepts(&self, event: u8, p: u8) -> Result<Event, Refusal>
+    // The event of that number, where it is accepted of processor p; or 8, 9.
+    fn accepts(&self, event: u8, p: u8) -> Result<Event, Refusal>
         ensures { Accepts self.now event p result }
     {
         let event = Event::try_from(event)?;
@@ -64,7 +64,7 @@ impl LockState {
     }
 
     // What an accepted event makes of the state.
-    pub fn does(self, event: Event, p: u8) -> LockState
+    fn does(self, event: Event, p: u8) -> LockState
         ensures { result ≡ does self (event_number event) p }
     {
         match event {

@@ -24,7 +24,7 @@ pub fn only_one_put()
     ensures { OnlyOnePut }
 {}
 
-// Two answers that say the same refusal and the same state are the same, and so of the test and of the act alone.
+// Two answers that say the same refusal and the same state are the same.
 pub fn only_one_says()
     ensures { OnlyOneSays }
 {}

@@ -84,8 +84,9 @@ pub enum Refusal {
 // A refusal, with the same state back; beside a fresh state's stands the filler.
 #[derive(Clone, Copy, Debug, PartialEq, Eq)]
 pub struct Refused {
-    pub refusal: Refusal,
+    // first, as in `Ok`: at another place in the two the state would be moved at each answer
     pub state: LockState,
+    pub refusal: Refusal,
 }
 
 impl From<Edition> for u8 {

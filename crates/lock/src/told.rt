@@ -5,7 +5,7 @@ ghost use Rattle.std.specs.Prelude.{◌≡◌};
 ghost use Rattle.lock.specs.State.{row, put_row, put_tail};
 ghost use Rattle.lock.specs.Sound.{sound};
 ghost use Rattle.lock.specs.Named.{edition_number, event_number, locked_number, place_number, refusal_number, NamesEdition, NamesEvent, NamesPlace};
-ghost use Rattle.lock.specs.Event.{told, Accepts, does, fresh, happens, carried};
+ghost use Rattle.lock.specs.Event.{told, fresh, happens, carried};
 
 use crate::{Edition, Event, LockState, Locked, NoPlace, Place, Refusal, Refused, Row};
 
@@ -37,18 +37,6 @@ fn told_is_sound(s: LockState) -> bool
     ensures { result ≡ sound s }
 {
     s.is_sound()
-}
-
-fn told_accepts(s: &LockState, event: u8, p: u8) -> Result<Event, Refusal>
-    ensures { Accepts s.now event p result }
-{
-    s.accepts(event, p)
-}
-
-fn told_does(s: LockState, event: Event, p: u8) -> LockState
-    ensures { result ≡ does s (event_number event) p }
-{
-    s.does(event, p)
 }
 
 fn told_carried(s: LockState, event: u8, p: u8) -> Result<LockState, Refused>

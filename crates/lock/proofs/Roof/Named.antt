@@ -18,9 +18,8 @@ use Rattle.lock.specs.declared.places.NoPlace.{NoPlace}
 use Rattle.lock.specs.declared.Refusal.{Refusal}
 use Rattle.lock.specs.declared.Refusal.TheVariants.{UnknownEdition, ProcessorCount, UnknownEvent, NoSuchProcessor, Unsound}
 use Rattle.lock.specs.declared.Refused.{Refused}
-use Rattle.lock.proofs.Ground.Accepted.{refusal_above}
 use Rattle.lock.proofs.Ground.Editions.{edition_below}
-use Rattle.lock.specs.Event.{Answer, told, Accepts}
+use Rattle.lock.specs.Event.{Answer}
 use Rattle.lock.specs.Named.{edition_number, place_number, refusal_number, NamesEdition, NamesEvent, NamesPlace}
 use Rattle.lock.specs.Unique.{OnlyOneSays, OnlyOneNamed}
 
@@ -151,6 +150,14 @@ refusal_same UnknownEvent = refl
 refusal_same NoSuchProcessor = refl
 refusal_same Unsound = refl
 
+-- no refusal is 0
+refusal_above : (r : Refusal) → 0 < refusal_number r
+refusal_above UnknownEdition = lit< tt
+refusal_above ProcessorCount = lit< tt
+refusal_above UnknownEvent = lit< tt
+refusal_above NoSuchProcessor = lit< tt
+refusal_above Unsound = lit< tt
+
 accepted_is_none : (r : Refusal) → 0 ≡ refusal_number r → {A : Type 0} → A
 accepted_is_none r e = let above : 0 < refusal_number r = refusal_above r in absurd (omega (arith, e, above))
 
@@ -158,21 +165,11 @@ one_refused : (r q : Refused) → r.refusal ≡ q.refusal → r.state ≡ q.stat
 one_refused r q e f =
     ap (λ (a : Refusal). record { refusal = a; state = r.state }) e ∙ ap (λ (s : LockState). record { refusal = q.refusal; state = s }) f
 
-one_answer : (a b : Result LockState Refused) → told a ≡ told b → a ≡ b
-one_answer (Ok s) (Ok t) e = ap Ok (ap (λ (a : Answer). a.state) e)
-one_answer (Ok s) (Err r) e = accepted_is_none r.refusal (ap (λ (a : Answer). a.refusal) e)
-one_answer (Err r) (Ok s) e = accepted_is_none r.refusal (sym (ap (λ (a : Answer). a.refusal) e))
-one_answer (Err r) (Err q) e =
+pub one_says : OnlyOneSays
+one_says (Ok s) (Ok t) e = ap Ok (ap (λ (a : Answer). a.state) e)
+one_says (Ok s) (Err r) e = accepted_is_none r.refusal (ap (λ (a : Answer). a.refusal) e)
+one_says (Err r) (Ok s) e = accepted_is_none r.refusal (sym (ap (λ (a : Answer). a.refusal) e))
+one_says (Err r) (Err q) e =
     ap Err
     (one_refused r q (apart refusal_number refusal_back refusal_same r.refusal q.refusal (ap (λ (a : Answer). a.refusal) e))
     (ap (λ (a : Answer). a.state) e))
-
-one_accepts : (s : LockState) (event p : ℕ) (a b : Result Event Refusal) → Accepts s event p a → Accepts s event p b → a ≡ b
-one_accepts s event p (Ok e) (Ok f) i j = one_event event (Ok e) (Ok f) i.0 j.0
-one_accepts s event p (Ok e) (Err q) i j = accepted_is_none q (sym i.1 ∙ j)
-one_accepts s event p (Err r) (Ok f) i j = accepted_is_none r (sym j.1 ∙ i)
-one_accepts s event p (Err r) (Err q) i j = ap Err (apart refusal_number refusal_back refusal_same r q (sym i ∙ j))
-
-pub one_says : OnlyOneSays
-one_says =
-    record { of_answer = one_answer; of_accepts = one_accepts; of_does = λ s event p. λ a b i j. i ∙ sym j }

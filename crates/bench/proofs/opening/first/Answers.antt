@@ -15,12 +15,12 @@ returns-in_err-line c =
     let e = err_from_is_err_and c.from_residual.result c.from_residual.ensures.1 in
     rw (e.1, e.2) (open_refuses c.args.schedule.now _ (sym c.in_err-line.ensures))
 
-pub returns-in_err-state : goal.returns-in_err-state
-returns-in_err-state c =
-    let e = err_from_is_err_and c.from_residual-in_err-state.result c.from_residual-in_err-state.ensures.1 in
-    let r = c.in_err-state.field-0.0 in
+pub returns-in_err-fresh : goal.returns-in_err-fresh
+returns-in_err-fresh c =
+    let e = err_from_is_err_and c.from_residual-in_err-fresh.result c.from_residual-in_err-fresh.ensures.1 in
+    let r = c.in_err-fresh.field-0.0 in
     rw (e.1, e.2)
-    (refuses c.args.schedule.now _ _ _ _ c.in_ok-line.ensures (refused (refusal_number r.refusal) r.state) c.in_err-state.ensures
+    (refuses c.args.schedule.now _ _ _ _ c.in_ok-line.ensures (refused (refusal_number r.refusal) r.state) c.in_err-fresh.ensures
     (lock_not_zero r.refusal))
 
 pub returns : goal.returns
@@ -28,6 +28,6 @@ returns c =
     let f = c.in_ok-line.line in
     let text = c.args.schedule.now in (
       whole_nine text true (ap (λ t. t.refusal) (sym c.in_ok-line.ensures)),
-      rw (ap (λ a. a.state) c.in_ok-state.ensures) (fresh_kept f.first f.second),
-      opens text _ _ _ _ c.in_ok-line.ensures c.in_ok-state.state c.in_ok-state.ensures,
+      rw (ap (λ a. a.state) c.in_ok-fresh.ensures) (fresh_kept f.first f.second),
+      opens text _ _ _ _ c.in_ok-line.ensures c.in_ok-fresh.field-0 c.in_ok-fresh.ensures,
     )
