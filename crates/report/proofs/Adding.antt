@@ -2,7 +2,7 @@
 --     fits, sum                     two rows at a place: their sum is a count; their sum
 --     rows_fit, rows_sum            two tables at a row, likewise
 --     sum_fits, row_fits            where every sum is a count, each is
---     added_stays                   counts that are refused leave the table as it was
+--     added_as, added_stays         the sum by its test; counts that are refused leave the table as it was
 --     same_test, same_sums          row by row is the same as cell by cell
 -- Assumes nothing.
 use Prim.Native.Nat.{ℕ, ◌+◌, ◌≤◌, ◌<◌}
@@ -47,7 +47,7 @@ module _ (t m : List (List ℕ)) where
   unfolding table_sum row_sum raised cell
   same_sums = refl
 
-abbrev added_as : List (List ℕ) → Counts → Bool → Reported
+abbrev pub added_as : List (List ℕ) → Counts → Bool → Reported
 added_as t f b = cond b (record { refusal = 0; line = 0; table = raised t f }) (record { refusal = 12; line = 0; table = t })
 
 -- counts that are refused leave the table as it was

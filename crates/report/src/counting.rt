@@ -62,20 +62,24 @@ impl Account {
         }
     }
 
-    // A call, which is the processor's own or another's. What is pending is charged before it changes. That there is room for the
-    // call is no invariant of an account: after it there may be none.
+    // After a call, which is the processor's own or another's. That there is room for it is no invariant of an account: after it
+    // there may be none.
     #[tactic(auto, unfolding(crate::specs::Accounts::seen_by))]
     fn see(&mut self, own: bool, call: Accepted)
         requires { Fits self.old }
         ensures { self.new ≡ seen_by self.old «own» call.p call.did }
     {
-        let joins = own & call.did.joined;
-        let enters = own & call.did.entered;
-        let charges = enters & self.joined & !joins;
-        self.tally = with_call(self.tally, enters, own & call.did.interrupted, joins);
-        self.joined |= joins;
-        charge(&mut self.charged, &self.pending, charges);
+        let did = call.did;
+        let joins = own & did.joined;
+        let enters = own & did.entered;
+        charge(
+            &mut self.charged,
+            &self.pending,
+            enters & self.joined & !joins,
+        );
         pend(&mut self.pending, call, joins);
+        self.joined = self.joined | joins;
+        self.tally = with_call(self.tally, enters, own & did.interrupted, joins);
     }
 }
 
@@ -111,17 +115,18 @@ fn charge(charged: &mut [u32; 16], pending: &[u32; 16], charges: bool)
     ensures { charged.new ≡ charged_then charged.old pending.now «charges» }
 {
     if charges {
-        *charged = tables::row_sum(charged, pending);
+        tables::add_row(charged, pending);
     }
 }
 
-// A call, seen by all accounts.
+// All accounts after a call. In place, and so no `array::from_fn`, which clears an array first: at each join and entry that took
+// more time than all else along the schedule.
 pub(crate) fn note(accounts: &mut [Account; 16], call: Accepted)
     requires { AllFit accounts.old }
     ensures { accounts.new ≡ noted_by accounts.old call.p call.did }
 {
-    for (b, account) in accounts.iter_mut().enumerate() {
-        account.see(b == call.p, call);
+    for b in 0..16 {
+        accounts[b].see(b == call.p, call);
     }
 }
 

@@ -36,7 +36,8 @@ fn follow(first: LockState, text: &[u8]) -> Result<Followed, Stopped>
     let mut state = first;
     let mut accounts = [Account::none(); 16];
     let mut accepted = 0;
-    while 0 < rest.len() {
+    // No iterator: document 01 has the part from each line on handed on, and the remainder handed back ("Which form to use where").
+    while !rest.is_empty() {
         let line = accepted + 2;
         let Frame {
             first: event,
@@ -47,11 +48,10 @@ fn follow(first: LockState, text: &[u8]) -> Result<Followed, Stopped>
             line,
         })?;
         let from = state.row(p);
-        let accepted_event = state.accepts(event, p).map_err(|refusal| Stopped {
-            refusal: Refusal::from(refusal),
+        state = state.carried(event, p).map_err(|refused| Stopped {
+            refusal: Refusal::from(refused.refusal),
             line,
         })?;
-        state = state.does(accepted_event, p);
         let to = state.row(p);
         let did = counting::told_apart(event, from.place, to.place);
         if did.joined | did.entered | did.interrupted {

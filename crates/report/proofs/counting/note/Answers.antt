@@ -1,4 +1,4 @@
--- `report::counting::note` meets its contract: the accounts that the loop leaves are those of the definition.
+-- `report::counting::note` meets its contract: the accounts that the loop has stored are those of the definition.
 use Rattle.std.proofs.Common.{arith}
 use Rattle.lock.specs.State.{processors}
 use Rattle.report.specs.Accounts.{absent, noted_by}

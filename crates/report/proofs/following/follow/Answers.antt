@@ -1,13 +1,13 @@
 -- `report::following::follow` meets its contract: an accepted line carries the calls and the accounts one further, a refused line
 -- ends them, and so does the end of the text.
-use Rattle.std.proofs.Common.{◌≡◌, ℕ, false, eqb, ◌+◌, ◌<◌, ◌≤◌, List, length, Ok, Err, refl, sym, ap, ◌∙◌, rules}
+use Rattle.std.proofs.Common.{◌≡◌, ℕ, Bool, true, false, eqb, arith, ◌+◌, ◌<◌, ◌≤◌, List, length, Ok, Err, refl, sym, ap, ◌∙◌, rules}
+use Rattle.std.proofs.lemmas.Bool.Decides.{nat_tests}
 use Rattle.std.proofs.lemmas.Result.{err_from_is_err_and}
 use Rattle.lock.specs.declared.Row.{Row}
 use Rattle.lock.specs.declared.LockState.{LockState}
 use Rattle.lock.specs.declared.Refused.{Refused}
 use Rattle.lock.specs.State.{row}
-use Rattle.lock.specs.Event.{Answer, Accepts, carried, happens, told as lock_told}
-use Rattle.lock.proofs.Ground.Accepted.{accepted_says, refused_says}
+use Rattle.lock.specs.Event.{Answer, carried, happens, told as lock_told}
 use Rattle.frame.specs.declared.Frame.{Frame}
 use Rattle.frame.specs.declared.Refusal.{Refusal as LineRefusal}
 use Rattle.frame.specs.Reading.{reads, refused_by, told as frame_told, number as line_number}
@@ -16,7 +16,6 @@ use Rattle.bench.specs.declared.Refusal.TheVariants.{Line, Lock}
 use Rattle.bench.specs.Named.{number}
 use Rattle.bench.specs.Log.{longest}
 use Rattle.bench.specs.Bridge.{call_of, line_refusal}
-use Rattle.bench.proofs.Frames.{framed}
 use Rattle.bench.proofs.Sound.{carried_is, lock_not_zero}
 use Rattle.bench.proofs.Heard.{line_asks, line_unread}
 use Rattle.report.specs.declared.counting.Did.{Did}
@@ -24,27 +23,33 @@ use Rattle.report.specs.declared.counting.Account.{Account}
 use Rattle.report.specs.declared.following.Stopped.{Stopped}
 use Rattle.report.specs.Accounts.{did_by, noted_by}
 use Rattle.report.specs.Followed.{told, followed_of, Agrees}
-use Rattle.report.proofs.Mapped.{kept_ok, kept_err, mapped_ok, mapped_err}
+use Rattle.report.proofs.Mapped.{mapped_ok, mapped_err}
 use Rattle.report.proofs.Going.{Along, begins, stops, ends, agrees, disagrees, Taken, low, fit, changed, quiet, goes_on}
 use Rattle.report.proofs.following.follow.Goals as goal
 use Rattle.report.proofs.following.follow.Goals.{then-did, else-did}
+
+some : (rest : List ℕ) (b : Bool) → b ≡ eqb (length rest) 0 → b ≡ false → 0 < length rest
+some rest b e f = grind (arith, nat_tests)
+
+none : (rest : List ℕ) (b : Bool) → b ≡ eqb (length rest) 0 → b ≡ true → length rest ≤ 0
+none rest b e f = grind (arith, nat_tests)
 
 pub loop-rest-init : goal.loop-rest-init
 loop-rest-init c = begins c.args.text.now c.args.first c.requires.whole c.none-accounts.result c.none-accounts.ensures
 
 module _
     (text : List ℕ) (first : LockState) (rest : List ℕ) (s : LockState) (accounts : List Account) (accepted : ℕ)
-    (along : Along text first rest s accounts accepted) (some : 0 < length rest) where
+    (along : Along text first rest s accounts accepted) (left : 0 < length rest) where
   -- the line is refused, by itself or by the lock
   stopped : (refusal : Refusal) (d : Stopped) → line_refusal s rest ≡ number refusal → eqb (number refusal) 0 ≡ false
       → d.refusal ≡ refusal → d.line ≡ accepted + 2 → Agrees (told (Err d)) (followed_of first text)
   stopped refusal d is none r l =
-      disagrees d _ _ (stops _ _ _ _ _ _ along some (number refusal) is none) (ap number r) l (ap (λ (x : Refusal). eqb (number x) 0) r ∙ none)
+      disagrees d _ _ (stops _ _ _ _ _ _ along left (number refusal) is none) (ap number r) l (ap (λ (x : Refusal). eqb (number x) 0) r ∙ none)
 
   unread : (e : LineRefusal) (d : Stopped) → refused_by (line_number e) ≡ reads rest false → d.refusal ≡ Line e
       → d.line ≡ accepted + 2 → Agrees (told (Err d)) (followed_of first text)
   unread e d read r l =
-      let x = line_unread s rest some (line_number e) (sym read) in
+      let x = line_unread s rest left (line_number e) (sym read) in
       stopped (Line e) d x.0 x.1 r l
 
   module _ (f : Frame) (read : frame_told (Ok f) ≡ reads rest false) where
@@ -55,7 +60,7 @@ module _
     p = f.second
 
     asks : (call_of rest ≡ record { event = event; processor = p }) × (line_refusal s rest ≡ (happens s event p).refusal)
-    asks = line_asks s rest some f.kind event p f.check (sym read)
+    asks = line_asks s rest left f.kind event p f.check (sym read)
 
     turned_away : (r : Refused) (d : Stopped) → lock_told (Err r) ≡ carried s event p → d.refusal ≡ Lock r.refusal
         → d.line ≡ accepted + 2 → Agrees (told (Err d)) (followed_of first text)
@@ -70,7 +75,7 @@ module _
     taken low next e = record {
       along = along;
       within = low;
-      some = some;
+      some = left;
       asks = asks.0;
       refusal = asks.1;
       answers = carried_is along.sound event p (lock_told (Ok next)) e;
@@ -90,29 +95,27 @@ returns-in_err-event c =
     let d = c.in_err-event.field-0.0 in
     let is : (d.refusal ≡ Line x.0) × (d.line ≡ l.accepted + 2) = search rules in
     let p = err_from_is_err_and c.from_residual.result c.from_residual.ensures.1 in
-    rw (p.1, p.2) (unread _ _ _ _ _ _ l.invariant c.loop-rest-test.true x.0 d x.1 is.0 is.1)
+    rw (p.1, p.2) (unread _ _ _ _ _ _ l.invariant (some l.rest.now _ c.is_empty.ensures c.loop-rest-test.true) x.0 d x.1 is.0 is.1)
 
-pub returns-in_err-accepted_event : goal.returns-in_err-accepted_event
-returns-in_err-accepted_event c =
+pub returns-in_err-state : goal.returns-in_err-state
+returns-in_err-state c =
     let l = c.loop-rest in
     let f = c.in_ok-event.field-0 in
     let read = mapped_ok frame_told (reads l.rest.now false) c.map_err.result _ c.read.result _ c.map_err.ensures.cases c.in_ok-event.was c.read.ensures in
-    let x = kept_err (Accepts l.state f.first f.second) c.map_err-in-loop-rest.result _ c.accepts.result _ c.map_err-in-loop-rest.ensures.cases c.in_err-accepted_event.was c.accepts.ensures in
-    let d = c.in_err-accepted_event.field-0.0 in
-    let is : (d.refusal ≡ Lock x.0) × (d.line ≡ l.accepted + 2) = search rules in
-    let p = err_from_is_err_and c.from_residual-in_err-accepted_event.result c.from_residual-in_err-accepted_event.ensures.1 in
+    let x = mapped_err lock_told (carried l.state f.first f.second) c.map_err-in-loop-rest.result _ c.carried.result _ c.map_err-in-loop-rest.ensures.cases c.in_err-state.was c.carried.ensures in
+    let d = c.in_err-state.field-0.0 in
+    let is : (d.refusal ≡ Lock x.0.refusal) × (d.line ≡ l.accepted + 2) = search rules in
+    let p = err_from_is_err_and c.from_residual-in_err-state.result c.from_residual-in_err-state.ensures.1 in
     rw (p.1, p.2)
-    (turned_away _ _ _ _ _ _ l.invariant c.loop-rest-test.true f read (record { refusal = x.0; state = l.state }) d
-    (refused_says l.state f.first f.second x.0 x.1) is.0 is.1)
+    (turned_away _ _ _ _ _ _ l.invariant (some l.rest.now _ c.is_empty.ensures c.loop-rest-test.true) f read x.0 d x.1 is.0 is.1)
 
 pub invariant_of-note : goal.invariant_of-note
 invariant_of-note c =
     let l = c.loop-rest in
     let f = c.in_ok-event.field-0 in
     let read = mapped_ok frame_told (reads l.rest.now false) c.map_err.result _ c.read.result _ c.map_err.ensures.cases c.in_ok-event.was c.read.ensures in
-    let accepts = kept_ok (Accepts l.state f.first f.second) c.map_err-in-loop-rest.result _ c.accepts.result _ c.map_err-in-loop-rest.ensures.cases c.in_ok-accepted_event.was c.accepts.ensures in
-    let next = accepted_says l.state f.first f.second c.in_ok-accepted_event.accepted_event c.does-state.result accepts c.does-state.ensures in
-    let is = low (taken _ _ _ _ _ _ l.invariant c.loop-rest-test.true f read c.requires.within c.does-state.result next) in
+    let next = mapped_ok lock_told (carried l.state f.first f.second) c.map_err-in-loop-rest.result _ c.carried.result _ c.map_err-in-loop-rest.ensures.cases c.in_ok-state.was c.carried.ensures in
+    let is = low (taken _ _ _ _ _ _ l.invariant (some l.rest.now _ c.is_empty.ensures c.loop-rest-test.true) f read c.requires.within c.in_ok-state.state next) in
     record { below = rw c.from-p.ensures is }
 
 pub note-requires : goal.note-requires
@@ -120,21 +123,19 @@ note-requires c =
     let l = c.loop-rest in
     let f = c.in_ok-event.field-0 in
     let read = mapped_ok frame_told (reads l.rest.now false) c.map_err.result _ c.read.result _ c.map_err.ensures.cases c.in_ok-event.was c.read.ensures in
-    let accepts = kept_ok (Accepts l.state f.first f.second) c.map_err-in-loop-rest.result _ c.accepts.result _ c.map_err-in-loop-rest.ensures.cases c.in_ok-accepted_event.was c.accepts.ensures in
-    let next = accepted_says l.state f.first f.second c.in_ok-accepted_event.accepted_event c.does-state.result accepts c.does-state.ensures in
-    fit (taken _ _ _ _ _ _ l.invariant c.loop-rest-test.true f read c.requires.within c.does-state.result next)
+    let next = mapped_ok lock_told (carried l.state f.first f.second) c.map_err-in-loop-rest.result _ c.carried.result _ c.map_err-in-loop-rest.ensures.cases c.in_ok-state.was c.carried.ensures in
+    fit (taken _ _ _ _ _ _ l.invariant (some l.rest.now _ c.is_empty.ensures c.loop-rest-test.true) f read c.requires.within c.in_ok-state.state next)
 
 pub loop-rest-preserved : goal.loop-rest-preserved
 loop-rest-preserved c =
     let l = c.loop-rest in
     let f = c.in_ok-event.field-0 in
     let read = mapped_ok frame_told (reads l.rest.now false) c.map_err.result _ c.read.result _ c.map_err.ensures.cases c.in_ok-event.was c.read.ensures in
-    let accepts = kept_ok (Accepts l.state f.first f.second) c.map_err-in-loop-rest.result _ c.accepts.result _ c.map_err-in-loop-rest.ensures.cases c.in_ok-accepted_event.was c.accepts.ensures in
-    let next = accepted_says l.state f.first f.second c.in_ok-accepted_event.accepted_event c.does-state.result accepts c.does-state.ensures in
-    let line = taken _ _ _ _ _ _ l.invariant c.loop-rest-test.true f read c.requires.within c.does-state.result next in
+    let next = mapped_ok lock_told (carried l.state f.first f.second) c.map_err-in-loop-rest.result _ c.carried.result _ c.map_err-in-loop-rest.ensures.cases c.in_ok-state.was c.carried.ensures in
+    let line = taken _ _ _ _ _ _ l.invariant (some l.rest.now _ c.is_empty.ensures c.loop-rest-test.true) f read c.requires.within c.in_ok-state.state next in
     let d = c.told_apart-did in
     let did_is =
-    seen l.state c.does-state.result f.first f.second c.row-from.result c.row-to.result
+    seen l.state c.in_ok-state.state f.first f.second c.row-from.result c.row-to.result
     d.result c.row-from.ensures c.row-to.ensures d.ensures in
     goes_on line c.if-did.accounts
     (elim c.if-did.branch [
@@ -147,4 +148,4 @@ loop-rest-preserved c =
 
 -- no line is left
 pub returns : goal.returns
-returns c = agrees _ _ (ends _ _ _ _ _ _ c.loop-rest.invariant c.loop-rest-test.false)
+returns c = agrees _ _ (ends _ _ _ _ _ _ c.loop-rest.invariant (none c.loop-rest.rest.now _ c.is_empty.ensures c.loop-rest-test.false))
