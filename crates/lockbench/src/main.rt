@@ -8,7 +8,7 @@ use std::io::Read;
 // One byte more than the longest schedule, so that a longer one is seen.
 const SCHEDULE: usize = bench::LONGEST + 1;
 
-// Room for the log of 6,001 lines.
+// Room for the log of 6,001 lines: what `bench::room_for` answers for the longest schedule, which a constant can't ask.
 const LOG: usize = 102028;
 
 fn main(rt: HostRuntime) {
@@ -22,9 +22,9 @@ fn main(rt: HostRuntime) {
     let _ = rt.write_all(&log[..length]);
 }
 
-// Reads until the buffer is full, the input ends or a read fails; answers how many bytes it put at the buffer's start. A function of
-// the program: std's `read_exact` does not say how many there were, `read_to_end` takes a heap, and `io::copy` goes on where a
-// signal broke a read off.
+// Reads until the buffer is full, the input ends or a read fails; answers how many bytes it put at the buffer's start. lockbench and
+// lockreport each have it, since no crate that both use reads anything. It stays beside std: `read_exact` does not say how many there
+// were, `read_to_end` takes a heap (the programs have none), and `io::copy` goes on where a signal broke a read off.
 fn read_full<R: Read>(input: &mut R, buffer: &mut [u8]) -> usize
     ensures { result ≤ length buffer.new }
 {

@@ -15,7 +15,7 @@ use std::io::Read;
 use table::Shown;
 
 // One byte more than the longest schedule, so that a longer one is seen.
-const SCHEDULE: usize = 54010;
+const SCHEDULE: usize = bench::LONGEST + 1;
 
 // One byte more than a table's text, likewise.
 const TEXT: usize = table::LENGTH + 1;
@@ -106,9 +106,9 @@ fn read_file(rt: &HostRuntime, path: &[u8], buffer: &mut [u8]) -> Option<usize>
     Some(read_full(&mut file, buffer))
 }
 
-// Reads until the buffer is full, the file ends or a read fails; answers how many bytes it put at the buffer's start. A function of
-// the program: std's `read_exact` does not say how many there were, `read_to_end` takes a heap, and `io::copy` goes on where a
-// signal broke a read off.
+// Reads until the buffer is full, the file ends or a read fails; answers how many bytes it put at the buffer's start. lockbench and
+// lockreport each have it, since no crate that both use reads anything. It stays beside std: `read_exact` does not say how many there
+// were, `read_to_end` takes a heap (the programs have none), and `io::copy` goes on where a signal broke a read off.
 fn read_full<R: Read>(file: &mut R, buffer: &mut [u8]) -> usize
     ensures { result ≤ length buffer.new }
 {
