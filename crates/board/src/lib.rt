@@ -66,7 +66,7 @@ pub fn pontivesca_report(
 {
     match report::by_value(schedule, *table, rows.len() / 3) {
         Ok(measured) => {
-            rows::lay(rows, measured.tallies());
+            rows::lay(rows, measured.laid_down());
             *table = measured.table;
             *line = 0;
             ACCEPTED

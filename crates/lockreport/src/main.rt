@@ -68,7 +68,7 @@ fn take_schedule(
     match report::by_value(&schedule[..n], *table, LENT) {
         Ok(measured) => {
             *table = measured.table;
-            tell(rt, Answer::accepted(measured.tallies()));
+            tell(rt, Answer::accepted(measured.laid_down()));
         }
         Err(refused) => tell(rt, refused.into()),
     }

@@ -34,7 +34,7 @@ pub fn reported(alloc: Global, list: &[Entry], start: Table) -> Result<Told, All
         match report::by_value(&schedule, table, entry.lent) {
             Ok(m) => {
                 table = m.table;
-                add_answer(&mut answers, 0, 0, m.tallies(), *entry);
+                add_answer(&mut answers, 0, 0, m.laid_down(), *entry);
             }
             Err(r) => {
                 table = r.table;

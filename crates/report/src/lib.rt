@@ -56,7 +56,7 @@ pub struct Measured {
 
 impl Measured {
     // The tallies that are laid down, one for each processor.
-    pub fn tallies(&self) -> &[Tally]
+    pub fn laid_down(&self) -> &[Tally]
         ensures { result.now ≡ take self.now.count self.now.rows }
     {
         &self.rows[..self.count]

@@ -39,6 +39,6 @@ pub fn report(schedule: &[u8], table: Table, rows: &mut [Tally]) -> Result<Table
         × (rows.new ≡ rows_after schedule.now table rows.old) }
 {
     let measured = by_value(schedule, table, rows.len())?;
-    rows[..measured.count].copy_from_slice(measured.tallies());
+    rows[..measured.count].copy_from_slice(measured.laid_down());
     Ok(measured.table)
 }

@@ -29,10 +29,10 @@ fn told_added(t: Table, m: Table) -> Result<Table, Refused>
     crate::added(t, m)
 }
 
-fn told_tallies(measured: &Measured) -> &[Tally]
+fn told_laid_down(measured: &Measured) -> &[Tally]
     ensures { result.now ≡ take measured.now.count measured.now.rows }
 {
-    measured.tallies()
+    measured.laid_down()
 }
 
 fn told_from(schedule: bench::Refusal) -> Refusal

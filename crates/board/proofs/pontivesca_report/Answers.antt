@@ -22,8 +22,8 @@ returns-in-Ok c =
       line_after = ap (λ (r : Reported). r.line) answer;
       table_after = ap (λ (r : Reported). r.table) answer;
       rows_after =
-          numbers_are text table c.args.rows.now (told_measured (Ok m)) c.tallies.result.now c.lay.new.rows c.in-Ok.ensures.value
-          c.tallies.ensures (ap length c.tallies.ensures ∙ length-take-le m.count m.rows (omega (arith, m.within))) c.lay.ensures;
+          numbers_are text table c.args.rows.now (told_measured (Ok m)) c.laid_down.result.now c.lay.new.rows c.in-Ok.ensures.value
+          c.laid_down.ensures (ap length c.laid_down.ensures ∙ length-take-le m.count m.rows (omega (arith, m.within))) c.lay.ensures;
     }
 
 pub returns-in-Err : goal.returns-in-Err

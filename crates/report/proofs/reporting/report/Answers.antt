@@ -21,6 +21,6 @@ returns c =
     let m = c.in_ok-measured in
     let rows = c.args.rows.now in (
       ap (λ (x : Measured). x.told) m.ensures.value,
-      ap (λ (ts : List Tally). ts ++ drop m.measured.count rows) (c.copy_from_slice.ensures.after ∙ c.tallies.ensures)
+      ap (λ (ts : List Tally). ts ++ drop m.measured.count rows) (c.copy_from_slice.ensures.after ∙ c.laid_down.ensures)
           ∙ ap (λ (x : Measured). take x.count x.rows ++ drop x.count rows) m.ensures.value,
     )
