@@ -2,7 +2,8 @@
 // wait.
 //
 // Each function is one definition of bench, frame or report, told as one number: how many bytes are written, and 0 where the
-// lent buffer has not the room; of a report its refusal. They ask nothing of their caller but that a slice is what it says.
+// lent buffer has not the room; of a report its refusal. They ask nothing of their caller but that a slice is what it says. Numbers and
+// lent parts, and no results: C calls them, through `board_c`, which repeats them since the kit makes a crate a library or a static one.
 #![tactic(auto)]
 
 pub mod laws;

@@ -1,5 +1,8 @@
 // Reading and replacing one row or one cell of a state. A row that is not there reads as fresh and is not replaced, so that
 // no act has to know that its neighbour's number is in range.
+//
+// Each put stays a function: it is the definition of its name in specs/State, which OneEventTouches and the acts' definitions use. One put that
+// takes a closure would say the cell at each of its calls, and the acts would no longer read as document 01 does.
 ghost use Rattle.std.specs.Prelude.{◌≡◌};
 ghost use Rattle.lock.specs.Named.{locked_number, place_number};
 ghost use Rattle.lock.specs.State.{row, put_row, put_tail, put_next, put_locked, put_guard, put_flag, to, put_pred, put_succ, put_nx};

@@ -24,7 +24,8 @@ pub use places::{NoPlace, Place};
 const ROWS: usize = LockState::PROCESSORS as usize;
 
 // What belongs to one processor: its queue node (next, locked, guard), its request flag, its place in the step table, and the
-// private cells that the acts use.
+// private cells that the acts use. The cells are bytes, and not `Option<u8>`, `Locked` or `Place`: a state may be handed in with any byte
+// in any of them (refusal 11, definition `sound`), and the cases and claims of specs/ are about the bytes.
 #[derive(Clone, Copy, Debug, PartialEq, Eq)]
 pub struct Row {
     pub next: u8,
@@ -37,7 +38,7 @@ pub struct Row {
     pub nx: u8,
 }
 
-// One value that holds its sixteen rows; `n` is the number of processors, `tail` document 01's L.
+// One value that holds its sixteen rows; `n` is the number of processors, `tail` document 01's L. Bytes for the reason above.
 #[derive(Clone, Copy, Debug, PartialEq, Eq)]
 pub struct LockState {
     pub edition: u8,
@@ -188,6 +189,7 @@ impl LockState {
 
     pub const PLACES: u8 = 29;
 
+    // In the place of a processor; document 01 has the none mark as a constant of the state ("Which form to use where").
     pub const NONE: u8 = 255;
 
     // How many editions there are.

@@ -1,5 +1,6 @@
 // Which places an edition has, as the rule of request [5]: first what each part of a lock brings with it, then the editions, put
-// together from these parts. At the end stand the places by name.
+// together from these parts. At the end stand the places by name. A set is a match with one place a line, each with the reason why it is
+// there; as one pattern with bars it would have no room for them.
 ghost use Rattle.std.specs.Prelude.{◌≡◌, ◌||◌};
 ghost use Rattle.lock.specs.Named.{edition_number, place_number, NamesPlace};
 ghost use Rattle.lock.specs.Sound.{is_in, wants_pred, wants_succ, wants_nx};

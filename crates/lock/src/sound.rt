@@ -49,11 +49,10 @@ fn as_fresh(r: Row) -> bool
 }
 
 // Row number i of a state of that edition and N.
-fn sound_row(edition: Edition, n: u8, i: u8, r: Row) -> bool
+fn sound_row(edition: Edition, n: u8, i: usize, r: Row) -> bool
     ensures { result ≡ cond (ltb i n) (Sound.cells_sound n r && Sound.place_sound (edition_number edition) r) (Sound.as_fresh r) }
 {
-    let used = i < n;
-    if used {
+    if i < usize::from(n) {
         cells_sound(n, r) & place_sound(edition, r)
     } else {
         as_fresh(r)
@@ -65,10 +64,9 @@ impl LockState {
         requires { self.edition ≡ edition_number edition }
         ensures { result ≡ every processors (Sound.sound_row self) }
     {
-        let rows = self.rows;
         let mut ok = true;
-        for i in 0..LockState::PROCESSORS {
-            ok &= sound_row(edition, self.n, i, rows[i as usize]);
+        for (i, r) in self.rows.iter().enumerate() {
+            ok &= sound_row(edition, self.n, i, *r);
         }
         ok
     }

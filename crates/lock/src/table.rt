@@ -16,6 +16,7 @@ impl LockState {
         }
     }
 
+    // A match, and no table of functions: it is document 01's step table, a place a line, and `rt ci` refuses functions as values.
     fn act(self, place: Place, p: u8) -> LockState
         ensures { result ≡ act (place_at (place_number place)) self p }
     {

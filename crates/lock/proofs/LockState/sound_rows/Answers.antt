@@ -3,7 +3,7 @@ use borrow.Author.Rules.{rules}
 use Prim.Native.Nat.{ℕ, ◌+◌}
 use mathlib.Core.Bool.{Bool, ◌&&◌, cond}
 use lib.Dec.{ltb}
-use mathlib.Core.Path.{◌≡◌, refl, ap, ◌∙◌}
+use mathlib.Core.Path.{◌≡◌, refl}
 use native.Mathlib.Numerals.{add-one}
 use native.Mathlib.Omega.{arith}
 use lib.ListN.{length}
@@ -17,7 +17,7 @@ use Rattle.lock.proofs.LockState.sound_rows.Goals as goal
 
 pub loop-i-init : goal.loop-i-init
 unfolding every
-loop-i-init c = (search rules, refl)
+loop-i-init c = refl
 
 -- one row more
 one_more : (s : LockState) (e i : ℕ) (ok b : Bool) (r : Row) → s.edition ≡ e → r ≡ row s i → ok ≡ every i (sound_row s) → b ≡ cond (ltb i s.n) (cells_sound s.n r && place_sound e r) (as_fresh r) → (ok && b) ≡ every (i + 1) (sound_row s)
@@ -29,9 +29,4 @@ loop-i-preserved c =
     let at = c.loop-i in
     let s = c.args.self in
     let n : length s.rows ≡ processors = search (length_mapped, rules) in
-    (search rules, one_more s _ at.i _ _ _ c.requires (row_within s at.i (omega arith)) at.invariant.1 c.sound_row-ok.ensures)
-
-pub returns : goal.returns
-returns c =
-    let all : c.loop-i.i ≡ processors = omega arith in
-    c.loop-i.invariant.1 ∙ ap (λ (i : ℕ). every i (sound_row c.args.self)) all
+    one_more s _ at.i _ _ _ c.requires (row_within s at.i (omega arith)) at.invariant c.sound_row-ok.ensures

@@ -1,13 +1,8 @@
 -- The loop's invariant: `ok` is the test of the rows below `i`.
-use Prim.Native.Nat.{◌≤◌, ◌-◌}
 use mathlib.Core.Path.{◌≡◌}
 use Rattle.choice.specs.Every.{every}
 use Rattle.lock.specs.Sound.{sound_row}
-use Rattle.lock.specs.State.{processors}
 use Rattle.lock.proofs.LockState.sound_rows.Given as goal
 
 abbrev pub invariant-loop-i : goal.invariant-loop-i
-invariant-loop-i l = (l.i ≤ processors) × (l.ok ≡ every l.i (sound_row l.self))
-
-abbrev pub decreases-loop-i : goal.decreases-loop-i
-decreases-loop-i l = processors - l.i
+invariant-loop-i l = l.ok ≡ every l.i (sound_row l.fn.self)
