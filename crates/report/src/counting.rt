@@ -125,8 +125,8 @@ pub(crate) fn note(accounts: &mut [Account; 16], call: Accepted)
     requires { AllFit accounts.old }
     ensures { accounts.new ≡ noted_by accounts.old call.p call.did }
 {
-    for b in 0..16 {
-        accounts[b].see(b == call.p, call);
+    for (b, account) in accounts.iter_mut().enumerate() {
+        account.see(b == call.p, call);
     }
 }
 
@@ -144,8 +144,8 @@ pub(crate) fn charges(accounts: &[Account; 16]) -> Table
 {
     // A loop, since a closure that gives a row would need both its clauses.
     let mut table = [[0; 16]; 16];
-    for a in 0..16 {
-        table[a] = charges_row(accounts, a);
+    for (a, row) in table.iter_mut().enumerate() {
+        *row = charges_row(accounts, a);
     }
     table
 }

@@ -21,8 +21,8 @@ pub(crate) fn add_row(t: &mut [u32; 16], m: &[u32; 16])
     requires { row_holds t.old m.now ≡ true }
     ensures { t.new ≡ row_sum t.old m.now }
 {
-    for i in 0..16 {
-        t[i] += m[i];
+    for (i, x) in t.iter_mut().enumerate() {
+        *x += m[i];
     }
 }
 
@@ -38,8 +38,8 @@ fn add_table(t: &mut Table, m: &Table)
     requires { table_holds t.old m.now ≡ true }
     ensures { t.new ≡ table_sum t.old m.now }
 {
-    for a in 0..16 {
-        add_row(&mut t[a], &m[a]);
+    for (a, row) in t.iter_mut().enumerate() {
+        add_row(row, &m[a]);
     }
 }
 

@@ -6,6 +6,6 @@ use Rattle.report.proofs.counting.charges.Given as goal
 
 abbrev pub invariant-loop-a : goal.invariant-loop-a
 invariant-loop-a l = record {
-  long : length l.table ≡ processors;
-  stored : (k : ℕ) → k < l.a → get_or l.table k [] ≡ charges_row l.accounts k;
+  long : length l.row-items ≡ processors;
+  stored : (k : ℕ) → k < l.a → get_or l.row-items k [] ≡ charges_row l.accounts k;
 }

@@ -6,8 +6,8 @@ use Rattle.report.proofs.Adding.{sum_fits}
 use Rattle.report.proofs.Upto.{upto_all}
 use Rattle.report.proofs.tables.add_row.Goals as goal
 
-pub overflow_add-t : goal.overflow_add-t
-overflow_add-t c =
+pub overflow_add-x : goal.overflow_add-x
+overflow_add-x c =
     omega (arith, sum_fits c.args.t.now c.args.m.now c.loop-i.i c.requires (omega arith), c.loop-i.invariant.left c.loop-i.i (omega arith))
 
 pub returns : goal.returns
