@@ -1,5 +1,6 @@
 // The 29 acts of the step table of document 01 and requests [1] and [2], each under its name. What an act does is said by the
-// definition of the same name in specs/Acts; the comments here say why the step is there.
+// definition of the same name in specs/Acts; the comments here say why the step is there. `p` goes with the state through all of them,
+// and is no part of it: the definitions and every claim have it beside the state, and document 01 has step as a method of the state.
 ghost use Rattle.std.specs.Prelude.{◌≡◌};
 ghost use Rattle.lock.specs.Acts as Acts;
 

@@ -30,12 +30,14 @@ impl LockState {
         s
     }
 
+    #[tactic(auto, unfolding(crate::specs::State::put_tail))]
     pub fn put_tail(self, q: u8) -> LockState
         ensures { result ≡ put_tail self q }
     {
         LockState { tail: q, ..self }
     }
 
+    #[tactic(auto, unfolding(crate::specs::State::put_next))]
     pub(crate) fn put_next(self, p: u8, v: u8) -> LockState
         ensures { result ≡ put_next self p v }
     {
@@ -48,6 +50,7 @@ impl LockState {
         )
     }
 
+    #[tactic(auto, unfolding(crate::specs::State::put_locked))]
     pub(crate) fn put_locked(self, p: u8, v: Locked) -> LockState
         ensures { result ≡ put_locked self p (locked_number v) }
     {
@@ -60,6 +63,7 @@ impl LockState {
         )
     }
 
+    #[tactic(auto, unfolding(crate::specs::State::put_guard))]
     pub(crate) fn put_guard(self, p: u8, v: bool) -> LockState
         ensures { result ≡ put_guard self p v }
     {
@@ -72,6 +76,7 @@ impl LockState {
         )
     }
 
+    #[tactic(auto, unfolding(crate::specs::State::put_flag))]
     pub(crate) fn put_flag(self, p: u8, v: bool) -> LockState
         ensures { result ≡ put_flag self p v }
     {
@@ -84,6 +89,7 @@ impl LockState {
         )
     }
 
+    #[tactic(auto, unfolding(crate::specs::State::to))]
     pub(crate) fn to(self, p: u8, v: Place) -> LockState
         ensures { result ≡ to self p (place_number v) }
     {
@@ -96,6 +102,7 @@ impl LockState {
         )
     }
 
+    #[tactic(auto, unfolding(crate::specs::State::put_pred))]
     pub(crate) fn put_pred(self, p: u8, v: u8) -> LockState
         ensures { result ≡ put_pred self p v }
     {
@@ -108,6 +115,7 @@ impl LockState {
         )
     }
 
+    #[tactic(auto, unfolding(crate::specs::State::put_succ))]
     pub(crate) fn put_succ(self, p: u8, v: u8) -> LockState
         ensures { result ≡ put_succ self p v }
     {
@@ -120,6 +128,7 @@ impl LockState {
         )
     }
 
+    #[tactic(auto, unfolding(crate::specs::State::put_nx))]
     pub(crate) fn put_nx(self, p: u8, v: u8) -> LockState
         ensures { result ≡ put_nx self p v }
     {

@@ -1,6 +1,0 @@
--- `lock::claims::old_has_no_bound` meets its contract by the law of that name.
-use Rattle.lock.proofs.Roof.Old.{old_has_no_bound}
-use Rattle.lock.proofs.claims.old_has_no_bound.Goals as goal
-
-pub returns : goal.returns
-returns c = old_has_no_bound
