@@ -17,6 +17,7 @@ pub fn parts_add_up()
 {}
 
 // A refused schedule leaves the table and the lent rows as they were.
+#[tactic(auto, using(crate::proofs::Orders::refused_adds_nothing))]
 pub fn refused_adds_nothing()
     ensures { RefusedAddsNothing }
 {}
@@ -27,26 +28,31 @@ pub fn rows_are_laid()
 {}
 
 // In the plain and guarded editions an entry charges each pair at most 1.
+#[tactic(auto, using(crate::proofs::Once::charged_once))]
 pub fn charged_once()
     ensures { ChargedOnce }
 {}
 
 // So a pair counts at most as much as the one that waited entered.
+#[tactic(auto, using(crate::proofs::Once::no_more_than_entries))]
 pub fn no_more_than_entries()
     ensures { NoMoreThanEntries }
 {}
 
 // Nobody is charged for its own entries.
+#[tactic(auto, using(crate::proofs::Once::diagonal_is_zero))]
 pub fn diagonal_is_zero()
     ensures { DiagonalIsZero }
 {}
 
 // Computed: these claims are met, and none holds without its premise.
+#[tactic(auto, using(crate::proofs::Witness::report_is_sharp))]
 pub fn report_is_sharp()
     ensures { ReportIsSharp }
 {}
 
 // Two answers that meet a public contract are one.
+#[tactic(auto, using(crate::proofs::Single::one_answer))]
 pub fn only_one_answer_fits()
     ensures { OnlyOneAnswerFits }
 {}
