@@ -3,8 +3,8 @@
 -- that only one answer fits. Places, after the step table, tells the rule by which the editions have their places; Touched, after the
 -- runs, what one event writes.
 pub mod State
-pub mod Named
 pub mod Sound
+pub mod Named
 pub mod Acts
 pub mod Table
 pub mod Places

@@ -3,6 +3,8 @@
 --     edition_number .. refusal_number    the number of each
 --     NamesEdition, NamesEvent, NamesPlace    what a number is taken for: the one of that number, or a refusal where there is none
 use Rattle.std.specs.Prelude.{ℕ, ◌≡◌, ◌≤◌, ◌≢◌, Result, Ok, Err}
+use Rattle.lock.specs.State.{editions}
+use Rattle.lock.specs.Sound.{places}
 use Rattle.lock.specs.declared.Edition.{Edition}
 use Rattle.lock.specs.declared.Edition.TheVariants.{Plain, Drawn, Guarded, Old}
 use Rattle.lock.specs.declared.Event.{Event}
@@ -77,7 +79,7 @@ refusal_number Unsound = 11
 -- a number as an edition: 6 where there is none of that number
 abbrev pub NamesEdition : ℕ → Result Edition Refusal → Type 0
 NamesEdition k (Ok e) = k ≡ edition_number e
-NamesEdition k (Err r) = (r ≡ UnknownEdition) × (4 ≤ k)
+NamesEdition k (Err r) = (r ≡ UnknownEdition) × (editions ≤ k)
 
 -- a number as an event: 8 where there is none of that number
 abbrev pub NamesEvent : ℕ → Result Event Refusal → Type 0
@@ -87,4 +89,4 @@ NamesEvent k (Err r) = (r ≡ UnknownEvent) × (k ≢ 1) × (k ≢ 2)
 -- a number as a place: none where there is none of that number
 abbrev pub NamesPlace : ℕ → Result Place NoPlace → Type 0
 NamesPlace k (Ok place) = k ≡ place_number place
-NamesPlace k (Err _) = 29 ≤ k
+NamesPlace k (Err _) = places ≤ k

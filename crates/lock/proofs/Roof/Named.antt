@@ -20,6 +20,8 @@ use Rattle.lock.specs.declared.Refusal.TheVariants.{UnknownEdition, ProcessorCou
 use Rattle.lock.specs.declared.Refused.{Refused}
 use Rattle.lock.proofs.Ground.Editions.{edition_below}
 use Rattle.lock.specs.Event.{Answer}
+use Rattle.lock.specs.State.{editions}
+use Rattle.lock.specs.Sound.{places}
 use Rattle.lock.specs.Named.{edition_number, place_number, refusal_number, NamesEdition, NamesEvent, NamesPlace}
 use Rattle.lock.specs.Unique.{OnlyOneSays, OnlyOneNamed}
 
@@ -40,8 +42,8 @@ edition_same Old = refl
 
 one_edition : (k : ℕ) (a b : Result Edition Refusal) → NamesEdition k a → NamesEdition k b → a ≡ b
 one_edition k (Ok e) (Ok f) p q = ap Ok (apart edition_number edition_back edition_same e f (sym p ∙ q))
-one_edition k (Ok e) (Err r) p q = let small : edition_number e < 4 = edition_below e in absurd (omega (arith, p, q.1, small))
-one_edition k (Err r) (Ok f) p q = let small : edition_number f < 4 = edition_below f in absurd (omega (arith, q, p.1, small))
+one_edition k (Ok e) (Err r) p q = let small : edition_number e < editions = edition_below e in absurd (omega (arith, p, q.1, small))
+one_edition k (Err r) (Ok f) p q = let small : edition_number f < editions = edition_below f in absurd (omega (arith, q, p.1, small))
 one_edition k (Err r) (Err s) p q = ap Err (p.0 ∙ sym q.0)
 
 -- ---- events
@@ -94,7 +96,7 @@ place_same OldFree = refl
 place_same Reread = refl
 place_same Lost = refl
 
-place_below : (place : Place) → place_number place < 29
+place_below : (place : Place) → place_number place < places
 place_below Rest = lit< tt
 place_below Gate = lit< tt
 place_below Clear = lit< tt
@@ -127,8 +129,8 @@ place_below Lost = lit< tt
 
 one_place : (k : ℕ) (a b : Result Place NoPlace) → NamesPlace k a → NamesPlace k b → a ≡ b
 one_place k (Ok e) (Ok f) p q = ap Ok (apart place_number place_back place_same e f (sym p ∙ q))
-one_place k (Ok e) (Err r) p q = let small : place_number e < 29 = place_below e in absurd (omega (arith, p, q, small))
-one_place k (Err r) (Ok f) p q = let small : place_number f < 29 = place_below f in absurd (omega (arith, q, p, small))
+one_place k (Ok e) (Err r) p q = let small : place_number e < places = place_below e in absurd (omega (arith, p, q, small))
+one_place k (Err r) (Ok f) p q = let small : place_number f < places = place_below f in absurd (omega (arith, q, p, small))
 one_place k (Err r) (Err s) p q = refl
 
 pub one_named : OnlyOneNamed
