@@ -59,6 +59,11 @@ taken_below s event p fit taken =
     never true = refl
     never false = refl
 
+-- so it is below the limit
+pub below : (s : LockState) (event p : ℕ) → Whole s → eqb (happens s event p).refusal 0 ≡ true → p < processors
+below s event p w taken =
+    subst (λ (k : ℕ). p < k) w.rooms (row_room s w.fit w.rooms (taken_below s event p w.fit taken))
+
 -- Where the loop stands, in the state s with `rest` to come: so many calls are heard, and the accounts are over them.
 pub record Along (text : List ℕ) (first : LockState) (rest : List ℕ) (s : LockState) (accounts : List Account)
     (accepted : ℕ) : Type 0 where
@@ -162,9 +167,7 @@ module _ {text : List ℕ} {first : LockState} {rest : List ℕ} {s : LockState}
   happened = ap (λ (x : Answer). eqb x.refusal 0) (sym line.answers) ∙ line.none
 
   pub low : p < processors
-  low =
-      subst (λ (k : ℕ). p < k) i.sound.rooms
-      (row_room s i.sound.fit i.sound.rooms (taken_below s event p i.sound.fit happened))
+  low = below s event p i.sound happened
 
   pub fit : AllFit accounts
   fit = subst AllFit (sym i.accounts_are) (accounts_fit first i.calls (omega (arith, i.count, i.fewer, line.within, line.some)))

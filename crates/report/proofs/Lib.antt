@@ -1,5 +1,8 @@
 -- The proofs of the report, from the bottom up:
---     Upto, Adding            lists by number; a table added to a table
+--     Upto, Made              lists by number, and arrays that are made so
+--     Mapped                  what `map_err` leaves known
+--     Numbers, Single         the refusals' numbers; only one answer fits
+--     Adding                  a table added to a table
 --     Charging, Accounting    what one call changes in the counts, and in the accounts
 --     Going, Opening          along the later lines; a schedule from its first line on
 --     Latest, Once            what an entry charges, in the plain and guarded editions

@@ -1,6 +1,5 @@
 -- Arrays made by number: what the calls of `array::from_fn` give, and a test of two rows place by place.
 --     made         the list whose things those calls gave
---     asked        the calls may be made
 --     all_pairs    `all` over two rows is the test of every place
 -- Assumes nothing.
 use Prim.Native.Nat.{ℕ, zero, suc, ◌+◌, ◌≤◌, ◌<◌, zero-le}
@@ -12,11 +11,8 @@ use mathlib.Core.Bool.{Bool, true, false, ◌&&◌}
 use mathlib.Core.List.{List, [], ◌∷◌}
 use lib.ListN.{length, get_or}
 use denote.Param.Members.{Mut, Called}
-use Rattle.std.specs.Array.{IsFromFnResultFrom, IsFromFnResult, index_steps}
-use Rattle.std.specs.Fn.{Takes}
-use Rattle.std.specs.Iterator.{Yields, CallableAtEachTurn}
-use Rattle.std.specs.List.{FoldsTo, list_all, zip}
-use Rattle.std.specs.Prelude.{Some}
+use Rattle.std.specs.Array.{IsFromFnResultFrom, IsFromFnResult}
+use Rattle.std.specs.List.{list_all, zip}
 use Rattle.std.proofs.lemmas.Slice.Zip.{length-zip, get_or-zip}
 use Rattle.choice.specs.Every.{every}
 use Rattle.choice.proofs.Numbers.{every_same}
@@ -38,25 +34,6 @@ module _ {F A : Type 0} (g : Mut F (ℕ × Unit {0}) A) (h : ℕ → A) (f : F) 
 
   pub made : IsFromFnResult g f ys n → ys ≡ upto n h
   made m = upto_all h n ys (h 0) m.long (λ i l. at_each n 0 (omega arith) m.each i (h 0) zero-le l)
-
--- calls that leave the closure as it was
-module _ {F A : Type 0} (g : Mut F (ℕ × Unit {0}) A) (f : F) (n : ℕ)
-    (keeps : (i : ℕ) (y : A) (q : F) → i < n → Called g f (i, tt) y q → q ≡ f) (takes : (i : ℕ) → i < n → Takes g f (i, tt)) where
-  abbrev Calls : F → ℕ → F → Type 0
-  Calls p i q = (y : A) × Called g p (i, tt) y q
-
-  each_asked :
-      (is : List ℕ) (s t : ℕ) (p q : F) (i u : ℕ) → p ≡ f → Yields (index_steps n) s is t → FoldsTo Calls p is q
-      → index_steps n t (Some i) u → Takes g q (i, tt)
-  each_asked [] s t p q i u same went held step =
-      subst (λ (x : F). Takes g x (i, tt)) (sym same ∙ held) (takes i (subst (λ (k : ℕ). k < n) (sym step.1) step.0))
-  each_asked (k ∷ is) s t p q i u same (v, at, went) (r, (y, call), held) step =
-      each_asked is v t r q i u
-      (keeps k y r (subst (λ (m : ℕ). m < n) (sym at.1) at.0) (subst (λ (x : F). Called g x (k, tt) y r) same call))
-      went held step
-
-  pub asked : CallableAtEachTurn (index_steps n) Calls (λ p i. Takes g p (i, tt)) 0 f
-  asked = record { at = λ is t q i u went held step. each_asked is 0 t f q i u refl went held step }
 
 -- a test of every thing of a list, by its place
 module _ {A : Type 0} (test : A → Bool) where

@@ -1,15 +1,14 @@
 // Along a schedule: its own refusal with the line, or N and the accounts of its processors. The loop goes from line to line as the
-// bench's does, and both by the definitions of bench's Bridge; no function takes or hands on a state, since each would copy all its
-// rows.
-ghost use Rattle.std.specs.Prelude.{◌≤◌, length};
+// bench's does, and both by the definitions of bench's Bridge. The state stands in the loop and each line changes it there, since a
+// state that is handed on is copied with all its rows.
+ghost use Rattle.std.specs.Prelude.{◌<◌, ◌≤◌, length};
 ghost use Rattle.lock.specs.Kept.{Whole};
 ghost use Rattle.bench.specs.Log.{longest};
-ghost use Rattle.report.specs.Followed.{told, followed_of, Agrees, Follows};
+ghost use Rattle.report.specs.Followed.{told, followed_of, Turns, Begins, Agrees, Follows};
 
 use crate::counting;
 use crate::counting::{Accepted, Account};
 use bench::{LONGEST, Refusal};
-use frame::Frame;
 use lock::LockState;
 
 // A schedule's refusal and its line.
@@ -26,6 +25,23 @@ pub(crate) struct Followed {
     pub accounts: [Account; 16],
 }
 
+// What the line at the beginning of the text asks for, done on the state; the answer is the call. The state is sound since it was
+// fresh, so no event tests it.
+fn turn(state: &mut LockState, text: &[u8]) -> Result<Accepted, Refusal>
+    requires whole { Whole state.old }
+    requires some { 0 < length text.now }
+    ensures { Turns state.old text.now state.new result }
+{
+    let line = frame::read(text, false)?;
+    let before = state.row(line.second);
+    *state = state.carried(line.first, line.second)?;
+    let after = state.row(line.second);
+    Ok(Accepted {
+        p: usize::from(line.second),
+        did: counting::told_apart(line.first, before.place, after.place),
+    })
+}
+
 // The later lines, one after the other, from a state on.
 fn follow(first: LockState, text: &[u8]) -> Result<Followed, Stopped>
     requires whole { Whole first }
@@ -39,24 +55,10 @@ fn follow(first: LockState, text: &[u8]) -> Result<Followed, Stopped>
     // No iterator: document 01 has the part from each line on handed on, and the remainder handed back ("Which form to use where").
     while !rest.is_empty() {
         let line = accepted + 2;
-        let Frame {
-            first: event,
-            second: p,
-            ..
-        } = frame::read(rest, false).map_err(|refusal| Stopped {
-            refusal: Refusal::from(refusal),
-            line,
-        })?;
-        let from = state.row(p);
-        state = state.carried(event, p).map_err(|refused| Stopped {
-            refusal: Refusal::from(refused.refusal),
-            line,
-        })?;
-        let to = state.row(p);
-        let did = counting::told_apart(event, from.place, to.place);
+        let call = turn(&mut state, rest).map_err(|refusal| Stopped { refusal, line })?;
+        let did = call.did;
         if did.joined | did.entered | did.interrupted {
-            let p = usize::from(p);
-            counting::note(&mut accounts, Accepted { p, did });
+            counting::note(&mut accounts, call);
         }
         accepted += 1;
         rest = frame::rest(rest);
@@ -65,6 +67,16 @@ fn follow(first: LockState, text: &[u8]) -> Result<Followed, Stopped>
         n: first.n,
         accounts,
     })
+}
+
+// Line 1: the state from which the run begins.
+fn begin(schedule: &[u8]) -> Result<LockState, Refusal>
+    requires { length schedule.now ≤ longest }
+    ensures { Begins schedule.now result }
+{
+    let line = frame::read(schedule, true)?;
+    let state = LockState::fresh(line.first, line.second)?;
+    Ok(state)
 }
 
 // The whole schedule.
@@ -77,17 +89,6 @@ pub(crate) fn heard(schedule: &[u8]) -> Result<Followed, Stopped>
             line: 0,
         });
     }
-    let Frame {
-        first: edition,
-        second: n,
-        ..
-    } = frame::read(schedule, true).map_err(|refusal| Stopped {
-        refusal: Refusal::from(refusal),
-        line: 1,
-    })?;
-    let state = LockState::fresh(edition, n).map_err(|refused| Stopped {
-        refusal: Refusal::from(refused.refusal),
-        line: 1,
-    })?;
+    let state = begin(schedule).map_err(|refusal| Stopped { refusal, line: 1 })?;
     follow(state, frame::rest(schedule))
 }

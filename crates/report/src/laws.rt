@@ -1,5 +1,6 @@
 // What is claimed of the report, as contracts: an empty function promises each, so that a check names it. The statements are
-// those of `specs/`, `Order`, `Laid`, `AtMost`, `Sharp` and `Unique`; nobody needs to call these.
+// those of `specs/`, `Order`, `Laid`, `AtMost`, `Sharp` and `Unique`; nobody needs to call these. Three have an answer file: there
+// the search does not take the lemma that it is given.
 ghost use Rattle.report.specs.Order.{AnyOrder, PartsAddUp, RefusedAddsNothing};
 ghost use Rattle.report.specs.Laid.{RowsAreLaid};
 ghost use Rattle.report.specs.AtMost.{ChargedOnce, NoMoreThanEntries, DiagonalIsZero};

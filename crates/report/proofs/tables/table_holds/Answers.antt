@@ -15,6 +15,7 @@ unfolding table_holds
 returns c =
     let t = c.args.t.now in
     let m = c.args.m.now in
-    all_from_yields_List fit c.all.new.self _ _ c.all.ensures.ran (YieldsList-from_zip (YieldsList-from_slice t cc) (YieldsList-from_slice m cc))
+    all_from_yields_List fit c.all.new.self _ _ c.all.ensures.ran
+    (YieldsList-from_zip (YieldsList-from_slice t cc) (YieldsList-from_slice m cc))
     (λ x b q k. search (rules, tests))
     ∙ all_pairs fit t m [] (search rules) (search rules)
