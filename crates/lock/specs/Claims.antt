@@ -134,8 +134,8 @@ GuardHasItsReleaser =
     → Releaser (reached e n calls) q
 
 -- What a caller of the library holds after some calls: `LockState::fresh` gave the first state and refused nothing;
--- each further state is in what `event` answered on the one before. What the two answer is said by their contracts,
--- `fresh` and `happens`.
+-- each further state is in what `event` answered on the one before. What the two answer, told in document 01's terms by `told`, is said by
+-- their contracts, `fresh` and `happens`.
 pub data Held (e n : ℕ) : List Call → LockState → Type 0 where
   made : (a : Answer) → a ≡ fresh e n → a.refusal ≡ 0 → Held e n [] a.state
   answered : (calls : List Call) (s : LockState) (c : Call) (a : Answer)

@@ -7,9 +7,10 @@ use Rattle.lock.specs.declared.LockState.{LockState}
 use Rattle.lock.specs.State.{row, put_row, put_tail}
 use Rattle.lock.specs.Sound.{sound}
 use Rattle.lock.specs.Event.{told, fresh, carried, happens}
-use Rattle.lock.specs.Named.{NamesEdition, NamesEvent, NamesPlace}
+use Rattle.lock.specs.Named.{edition_number, event_number, locked_number, place_number, refusal_number, NamesEdition, NamesEvent, NamesPlace}
 use Rattle.lock.specs.declared.Edition.{Edition}
 use Rattle.lock.specs.declared.Event.{Event}
+use Rattle.lock.specs.declared.Locked.{Locked as LockedCell}
 use Rattle.lock.specs.declared.places.Place.{Place}
 use Rattle.lock.specs.declared.places.NoPlace.{NoPlace}
 use Rattle.lock.specs.declared.Refusal.{Refusal}
@@ -37,8 +38,13 @@ pub record OnlyOnePut : Type 0 where
 abbrev pub OnlyOneSays : Type 0
 OnlyOneSays = (a b : Result LockState Refused) → told a ≡ told b → a ≡ b
 
--- and what a number is taken for is one thing
+-- each name has one number, and a number is taken for one thing
 pub record OnlyOneNamed : Type 0 where
+  pub of_edition_number : (e : Edition) → OnlyOne _ (edition_number e)
+  pub of_event_number : (e : Event) → OnlyOne _ (event_number e)
+  pub of_locked_number : (v : LockedCell) → OnlyOne _ (locked_number v)
+  pub of_place_number : (place : Place) → OnlyOne _ (place_number place)
+  pub of_refusal_number : (r : Refusal) → OnlyOne _ (refusal_number r)
   pub of_edition : (k : ℕ) (a b : Result Edition Refusal) → NamesEdition k a → NamesEdition k b → a ≡ b
   pub of_event : (k : ℕ) (a b : Result Event Refusal) → NamesEvent k a → NamesEvent k b → a ≡ b
   pub of_place : (k : ℕ) (a b : Result Place NoPlace) → NamesPlace k a → NamesPlace k b → a ≡ b

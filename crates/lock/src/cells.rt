@@ -13,10 +13,9 @@ impl LockState {
     pub fn row(self, p: u8) -> Row
         ensures { result ≡ row self p }
     {
-        if p < LockState::PROCESSORS {
-            self.rows[p as usize]
-        } else {
-            Row::fresh()
+        match self.rows.get(usize::from(p)) {
+            Some(row) => *row,
+            None => Row::fresh(),
         }
     }
 

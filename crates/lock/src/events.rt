@@ -1,4 +1,5 @@
-// Making the fresh state, and an event on a state, with their refusals.
+// Making the fresh state, and an event on a state, with their refusals. An event and its processor come as the two bytes of a schedule's
+// line, and each is refused by itself, so they stay two parameters.
 ghost use Rattle.std.specs.Prelude.{◌≡◌};
 ghost use Rattle.lock.specs.State.{fresh_state};
 ghost use Rattle.lock.specs.Event.{told, Accepts, fresh, happens, carried, does, raised};
@@ -23,12 +24,10 @@ impl LockState {
         ensures { told result ≡ fresh edition n }
     {
         let filler = LockState::fresh_state(Edition::Plain, 1);
-        let edition = match Edition::try_from(edition) {
-            Ok(edition) => edition,
-            Err(refusal) => return Err(filler.refused(refusal)),
+        let Ok(edition) = Edition::try_from(edition) else {
+            return Err(filler.refused(Refusal::UnknownEdition));
         };
-        let outside = (n == 0) | (LockState::PROCESSORS < n);
-        if outside {
+        if n == 0 || LockState::PROCESSORS < n {
             return Err(filler.refused(Refusal::ProcessorCount));
         }
         Ok(LockState::fresh_state(edition, n))
@@ -88,8 +87,7 @@ impl LockState {
     pub fn event(self, event: u8, p: u8) -> Result<LockState, Refused>
         ensures { told result ≡ happens self event p }
     {
-        let sound = self.is_sound();
-        if !sound {
+        if !self.is_sound() {
             return Err(self.refused(Refusal::Unsound));
         }
         self.carried(event, p)

@@ -177,13 +177,6 @@ impl Row {
 }
 
 impl LockState {
-    // Whether it is of that edition.
-    pub(crate) fn is(self, edition: Edition) -> bool
-        ensures { result ≡ eqb self.edition (edition_number edition) }
-    {
-        self.edition == u8::from(edition)
-    }
-
     // The limits.
     pub const PROCESSORS: u8 = 16;
 
@@ -194,4 +187,16 @@ impl LockState {
 
     // How many editions there are.
     pub const EDITIONS: u8 = 4;
+
+    // Whether it is of that edition.
+    pub(crate) fn is(self, edition: Edition) -> bool
+        ensures { result ≡ eqb self.edition (edition_number edition) }
+    {
+        self.edition == u8::from(edition)
+    }
 }
+
+// The limits count what has a name.
+const _: () = prove!(LockState::PLACES == Place::Lost as u8 + 1);
+
+const _: () = prove!(LockState::EDITIONS == Edition::Old as u8 + 1);

@@ -1,4 +1,5 @@
-// The soundness test, part by part as in specs/Sound.
+// The soundness test, part by part as in specs/Sound. Its tests are joined by `&` and `|` without a branch, as the rows are tested at each
+// event: with a branch at each the test of a state takes more (docs/DECISIONS 127).
 ghost use Rattle.std.specs.Prelude.{◌≡◌, ◌&&◌, cond, ltb};
 ghost use Rattle.lock.specs.Sound as Sound;
 ghost use Rattle.choice.specs.Every.{every};
@@ -64,6 +65,7 @@ impl LockState {
         requires { self.edition ≡ edition_number edition }
         ensures { result ≡ every processors (Sound.sound_row self) }
     {
+        // All rows, also after one that is not sound: so no row waits for the test of another.
         let mut ok = true;
         for (i, r) in self.rows.iter().enumerate() {
             ok &= sound_row(edition, self.n, i, *r);

@@ -134,7 +134,17 @@ one_place k (Err r) (Ok f) p q = let small : place_number f < places = place_bel
 one_place k (Err r) (Err s) p q = refl
 
 pub one_named : OnlyOneNamed
-one_named = record { of_edition = one_edition; of_event = one_event; of_place = one_place }
+one_named =
+    record {
+      of_edition_number = λ e. λ a b i j. i ∙ sym j;
+      of_event_number = λ e. λ a b i j. i ∙ sym j;
+      of_locked_number = λ v. λ a b i j. i ∙ sym j;
+      of_place_number = λ place. λ a b i j. i ∙ sym j;
+      of_refusal_number = λ r. λ a b i j. i ∙ sym j;
+      of_edition = one_edition;
+      of_event = one_event;
+      of_place = one_place;
+    }
 
 -- ---- refusals
 

@@ -2,10 +2,10 @@
 use Rattle.lock.specs.Event.{happens}
 use Rattle.lock.proofs.LockState.event.Goals as goal
 
-pub returns-then-not-sound : goal.returns-then-not-sound
+pub returns-then-not-is_sound : goal.returns-then-not-is_sound
 unfolding happens
-returns-then-not-sound c = simp (← c.is_sound-sound.ensures, c.if-not-sound.true, c.refused.ensures)
+returns-then-not-is_sound c = simp (← c.is_sound.ensures, c.if-not-is_sound.true, c.refused.ensures)
 
 pub returns : goal.returns
 unfolding happens
-returns c = simp (← c.is_sound-sound.ensures, c.if-not-sound.false) c.carried.ensures
+returns c = simp (← c.is_sound.ensures, c.if-not-is_sound.false) c.carried.ensures
