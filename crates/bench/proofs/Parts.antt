@@ -1,6 +1,6 @@
 -- A line written into the part of a buffer that begins at a place, and the buffer when the part is back.
 --     leaves_fills, wrote    a line that fits, as the writer leaves it, fills the buffer's first bytes
---     part, back, laid       the part from a place on, the buffer when it is back, the buffer with a line in it from there on
+--     part, back             the part from a place on, the buffer when it is back
 --     part_is, put_whole     the part is what the buffer holds from the place on; back, it stands behind what was before it
 --     put                    so with a line in it: its length, what it holds up to the line's end, what it holds from there on
 --     filled_by              a buffer that is written up to a place holds a log, and is as it was from there on
@@ -14,7 +14,7 @@ use lib.Seq.{take_all, length-take-le, drop-drop, take_at, drop_at}
 use borrow.Author.Tests.{le-leb}
 use borrow.Rule.Slice.PartMut.{mid_of, put_mid}
 use Rattle.frame.specs.Writing.{leaves}
-use Rattle.bench.specs.Steps.{filled, Fills}
+use Rattle.bench.specs.Steps.{filled, laid, Fills}
 
 pub leaves_fills : (line buffer : List ℕ) → length line ≤ length buffer → leaves line buffer ≡ filled line buffer
 unfolding leaves
@@ -23,10 +23,6 @@ leaves_fills line buffer h = simp (le-leb (length line) (length buffer) h)
 pub wrote : (line buffer : List ℕ) (n : ℕ) → length line ≡ n → n ≤ length buffer → (last : List ℕ) → last ≡ leaves line buffer →
     Fills line n buffer last
 wrote line buffer n size room last e = (sym size, e ∙ leaves_fills line buffer (omega (arith, size, room)))
-
--- a line in a buffer from the byte `at` on, and every other byte as it was
-abbrev pub laid : ℕ → List ℕ → List ℕ → List ℕ
-laid at line buffer = take at buffer ++ (line ++ drop (at + length line) buffer)
 
 -- the line stands in the buffer from a place on: `out` was before
 pub record Put (at : ℕ) (out line after : List ℕ) : Type 0 where

@@ -28,6 +28,10 @@ only_one_answer_fits =
       to_room = λ bytes r s p q. p ∙ sym q;
       to_told = told_one;
       to_number = number_one;
+      of_number = λ refusal r s e f. e ∙ sym f;
+      of_line = λ line r s e f. e ∙ sym f;
+      of_lock = λ lock r s e f. e ∙ sym f;
+      of_refused = λ refused r s e f. e ∙ sym f;
     }
 
 pub every_log_is_a_run : EveryLogIsARun

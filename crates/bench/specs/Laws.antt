@@ -5,7 +5,11 @@
 use Rattle.std.specs.Prelude.{ℕ, ◌≤◌, ◌≡◌, List, Result, length}
 use Rattle.lock.specs.declared.LockState.{LockState}
 use Rattle.frame.specs.declared.NoRoom.{NoRoom}
+use Rattle.lock.specs.declared.Refusal.{Refusal as LockRefusal}
+use Rattle.lock.specs.declared.Refused.{Refused}
+use Rattle.frame.specs.declared.Refusal.{Refusal as LineRefusal}
 use Rattle.bench.specs.declared.Refusal.{Refusal}
+use Rattle.bench.specs.declared.Refusal.TheVariants.{Line, Lock}
 use Rattle.bench.specs.Named.{number}
 use Rattle.bench.specs.Log.{log_from, log_of}
 use Rattle.bench.specs.Lent.{Logged, told, room_for, logged, left}
@@ -18,7 +22,7 @@ FuelDoesNotMatter =
 abbrev pub LogFitsItsRoom : Type 0
 LogFitsItsRoom = (text : List ℕ) → length (log_of text) ≤ room_for (length text)
 
--- `bench`, and `room_for`; and what is told of an answer, or the number of a refusal, leaves one answer and one refusal
+-- `bench`, and `room_for`; the conversions; and what is told of an answer, or the number of a refusal, leaves one answer and one refusal
 pub record OnlyOneAnswerFits : Type 0 where
   pub to_bench : (text out : List ℕ) (r s : Logged) (after kept : List ℕ) →
       r ≡ logged text out → after ≡ left text out → s ≡ logged text out → kept ≡ left text out →
@@ -26,3 +30,7 @@ pub record OnlyOneAnswerFits : Type 0 where
   pub to_room : (bytes r s : ℕ) → r ≡ room_for bytes → s ≡ room_for bytes → r ≡ s
   pub to_told : (r s : Result ℕ NoRoom) → told r ≡ told s → r ≡ s
   pub to_number : (r s : Refusal) → number r ≡ number s → r ≡ s
+  pub of_number : (refusal : Refusal) (r s : ℕ) → r ≡ number refusal → s ≡ number refusal → r ≡ s
+  pub of_line : (line : LineRefusal) (r s : Refusal) → r ≡ Line line → s ≡ Line line → r ≡ s
+  pub of_lock : (lock : LockRefusal) (r s : Refusal) → r ≡ Lock lock → s ≡ Lock lock → r ≡ s
+  pub of_refused : (refused : Refused) (r s : Refusal) → r ≡ Lock refused.refusal → s ≡ Lock refused.refusal → r ≡ s

@@ -1,9 +1,9 @@
 -- The words in which the contracts of the inner functions say what the definitions of Log say.
---     filled, Fills               bytes in a lent buffer
+--     filled, laid, Fills         bytes in a lent buffer
 --     later_log, opened_log       the log of the later lines, and of a schedule that is not too long
 --     lines_room                  the room that lines need
 --     Turns, Opens                what a later line, and line 1, make of the log, by what the code answers to them
-use Rattle.std.specs.Prelude.{ℕ, ◌+◌, ◌*◌, ◌/◌, ◌≤◌, ◌≡◌, true, List, ◌++◌, Result, Ok, Err, length, drop}
+use Rattle.std.specs.Prelude.{ℕ, ◌+◌, ◌*◌, ◌/◌, ◌≤◌, ◌≡◌, true, List, ◌++◌, Result, Ok, Err, length, take, drop}
 use Rattle.lock.specs.declared.LockState.{LockState}
 use Rattle.lock.specs.Kept.{Whole}
 use Rattle.frame.specs.declared.Frame.{Frame}
@@ -16,6 +16,10 @@ use Rattle.bench.specs.Log.{refused_at, shown, Turn, stopped, turn_of, log_from,
 -- the bytes in a buffer's first bytes, and every byte after them as it was
 abbrev pub filled : List ℕ → List ℕ → List ℕ
 filled bytes buffer = bytes ++ drop (length bytes) buffer
+
+-- a line in a buffer from the byte `at` on, and every other byte as it was
+abbrev pub laid : ℕ → List ℕ → List ℕ → List ℕ
+laid at line buffer = take at buffer ++ (line ++ drop (at + length line) buffer)
 
 -- so many bytes are written, and are these
 abbrev pub Fills : List ℕ → ℕ → List ℕ → List ℕ → Type 0

@@ -1,4 +1,5 @@
-// Single lines of the log. Each goes into the first bytes of what is left of the lent buffer; the answer is how many.
+// Single lines of the log. Each goes into the first bytes of what is left of the lent buffer; the answer is how many. What the writer answers
+// is not looked at: the `requires` gives it the room.
 ghost use Rattle.std.specs.Prelude.{◌≡◌, [], ◌∷◌, ◌≤◌, length};
 ghost use Rattle.bench.specs.Named.{number};
 ghost use Rattle.bench.specs.Log.{high, low, refused_at, counted, marks_of, row_shown};
@@ -8,7 +9,7 @@ use crate::Refusal;
 use lock::{Event, Place, Row};
 
 // The bytes of a 01 or 04 line, of an 03 line and of an 05 line.
-pub(crate) const FRAME: usize = 9;
+pub(crate) const FRAME: usize = frame::LINE;
 
 pub(crate) const ROW: usize = 17;
 

@@ -9,6 +9,9 @@ use lock::LockState;
 // A schedule has at most 6,001 lines.
 pub const LONGEST: usize = 54009;
 
+// The room for the log of any schedule.
+pub const ROOM: usize = lines::ROW * (LONGEST / lines::FRAME) + lines::REFUSAL;
+
 // The fresh state of line 1's numbers.
 fn first(schedule: &[u8]) -> Result<LockState, Refusal>
     ensures { Opens schedule.now result }

@@ -1,5 +1,5 @@
 // From line to line: the loop over the later lines. The state stands in the loop: an event's answer goes straight into it, and
-// no function above `carried` takes or hands on a state in the loop, since each would copy all its rows.
+// no function above `carried` takes a state by value or answers one there, since each would copy all its rows.
 ghost use Rattle.std.specs.Prelude.{◌≡◌, ◌≤◌, length};
 ghost use Rattle.lock.specs.Kept.{Whole};
 ghost use Rattle.bench.specs.Steps.{Fills, Turns, later_log, lines_room};
@@ -28,6 +28,7 @@ pub(crate) fn follow(out: &mut [u8], first: LockState, text: &[u8]) -> usize
     let mut rest = text;
     let mut state = first;
     let mut accepted = 0;
+    // How many bytes are written so far, which is what is answered; the rest of the buffer begins there.
     let mut at = 0;
     // No iterator: document 01 has the part from each line on handed on, and the remainder handed back ("Which form to use where").
     while !rest.is_empty() {

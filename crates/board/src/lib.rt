@@ -17,9 +17,6 @@ ghost use Rattle.report.specs.Table.{added_to};
 ghost use Rattle.board.specs.Written.{written};
 ghost use Rattle.board.specs.Numbers.{told_with, numbers_after};
 
-// A line of four pairs has 9 bytes.
-const LINE: usize = 9;
-
 // The number where nothing is refused.
 const ACCEPTED: u8 = 0;
 
@@ -47,7 +44,7 @@ pub fn pontivesca_line(kind: u8, first: u8, second: u8, out: &mut [u8]) -> usize
     ensures out_after { out.new ≡ leaves (line_of (kind ∷ first ∷ second ∷ [])) out.old }
 {
     match frame::write_frame(out, kind, first, second) {
-        Ok(()) => LINE,
+        Ok(()) => frame::LINE,
         Err(_) => 0,
     }
 }

@@ -9,6 +9,7 @@ pub(crate) fn lay(rows: &mut [u32], tallies: &[Tally])
     requires { 3 * length tallies.now ≤ length rows.old }
     ensures { rows.new ≡ numbers_of tallies.now ++ drop (3 * length tallies.now) rows.old }
 {
+    // By places: `chunks_exact_mut(3)` under `zip` forgets what it goes over.
     for (i, tally) in tallies.iter().enumerate() {
         let at = 3 * i;
         rows[at] = tally.entries;

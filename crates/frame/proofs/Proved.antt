@@ -117,6 +117,8 @@ written_one (Err _) (Err _) e = refl
 pub only_one_answer_fits : OnlyOneAnswerFits
 only_one_answer_fits =
     record {
+      to_number = λ refusal r s p q. p ∙ sym q;
+      to_no_room = λ r s p q. p ∙ sym q;
       to_read = λ text is_first r s p q. told_one r s (p ∙ sym q);
       to_rest = λ text r s p q. p ∙ sym q;
       to_write = λ line buffer r s left kept p f q g. (written_one r s (p ∙ sym q), f ∙ sym g);

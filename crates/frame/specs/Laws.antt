@@ -17,8 +17,8 @@ use Rattle.frame.specs.declared.Refusal.{Refusal}
 use Rattle.frame.specs.declared.NoRoom.{NoRoom}
 use Rattle.frame.specs.Case.{is_lower, upper_of, upper_case, EqualUpToCase}
 use Rattle.frame.specs.Pairs.{line_feed, is_digit, value_of, digit_of, byte_at, pair_at, pairs_from, sum_of, check_of}
-use Rattle.frame.specs.Reading.{told, refused_by, is_torn, are_digits, read_as, kind_of, reads, rest_of}
-use Rattle.frame.specs.Writing.{Bytes, line_of, written, writes, leaves, header_line, row_line, count_line, refusal_line}
+use Rattle.frame.specs.Reading.{told, number, refused_by, is_torn, are_digits, read_as, kind_of, reads, rest_of}
+use Rattle.frame.specs.Writing.{no_room, Bytes, line_of, written, writes, leaves, header_line, row_line, count_line, refusal_line}
 
 pub record DigitsAreInverse : Type 0 where
   pub written_then_read : (v : ℕ) → v < 16 → (is_digit (digit_of v) ≡ true) × (value_of (digit_of v) ≡ v)
@@ -106,9 +106,12 @@ pub record ByOrder (k kind : ℕ) (text : List ℕ) : Type 0 where
 abbrev pub RefusalsGoByOrder : Type 0
 RefusalsGoByOrder = (k kind : ℕ) (text : List ℕ) → ByOrder k kind text
 
--- `read` and every `write` function, by what their answers say, where a line is a definition of its values alone; and `rest`.
+-- `read` and every `write` function, by what their answers say, where a line is a definition of its values alone; `rest`; and the numbers
+-- of the refusals.
 -- That the functions' own contracts say what is supposed here, `src/told.rt` shows.
 pub record OnlyOneAnswerFits : Type 0 where
+  pub to_number : (refusal : Refusal) (r s : ℕ) → r ≡ number refusal → s ≡ number refusal → r ≡ s
+  pub to_no_room : (r s : ℕ) → r ≡ no_room → s ≡ no_room → r ≡ s
   pub to_read : (text : List ℕ) (is_first : Bool) (r s : Result Frame Refusal) →
       told r ≡ reads text is_first → told s ≡ reads text is_first → r ≡ s
   pub to_rest : (text r s : List ℕ) → r ≡ rest_of text → s ≡ rest_of text → r ≡ s

@@ -41,6 +41,9 @@ impl From<Kind> for u8 {
     }
 }
 
+// The bytes of a line of four pairs: these and a line feed.
+pub const LINE: usize = 9;
+
 // What ends every line.
 pub(crate) const LINE_FEED: u8 = b'\n';
 

@@ -61,6 +61,7 @@ pub(crate) fn read_pairs<const N: usize>(text: &[u8]) -> Option<[u8; N]>
     requires { 2 * N ≤ length text.now }
     ensures { result ≡ pairs_of N text.now }
 {
+    // The text by places: `zip` with `chunks_exact(2)` is as fast, but an adapter of `iter_mut` forgets what it goes over.
     let mut all = true;
     let mut numbers = [0; N];
     for (i, number) in numbers.iter_mut().enumerate() {

@@ -5,10 +5,7 @@
 ghost use Rattle.std.specs.Prelude.{◌≡◌, ◌<◌};
 ghost use Rattle.frame.specs.Reading.{told, told_line, begins, reads, read_as, is_torn, kind_of, rest_of};
 
-use crate::{Frame, Kind, LINE_FEED, Refusal, pairs};
-
-// The bytes of a line that is read: four pairs and a line feed.
-const BYTES: usize = 9;
+use crate::{Frame, Kind, LINE, LINE_FEED, Refusal, pairs};
 
 // The text's first 9 bytes as a frame, or why they are none. `is_first`: line 1 is wanted, not a later one. It and what it calls are put
 // into the loop of their caller, where the frame needs no memory: 43 instructions a line less.
@@ -30,10 +27,10 @@ pub fn rest(text: &[u8]) -> &[u8]
     ensures { result.now ≡ rest_of text.now }
 {
     // Written with `min` or `get` it takes three or four instructions a line more.
-    if text.len() < BYTES {
+    if text.len() < LINE {
         return &text[text.len()..];
     }
-    &text[BYTES..]
+    &text[LINE..]
 }
 
 // The kind of the line that is wanted.

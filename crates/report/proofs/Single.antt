@@ -3,12 +3,11 @@
 --     told_measured_one    by value
 --     one_answer           so only one answer fits each public contract
 -- Assumes nothing.
-use Prim.Native.Nat.{ℕ, ◌≤◌}
-use mathlib.Core.Path.{◌≡◌, refl, sym, ap, ◌∙◌, subst}
+use Prim.Native.Nat.{ℕ}
+use mathlib.Core.Path.{◌≡◌, refl, sym, ap, ◌∙◌}
 use mathlib.Core.List.{List}
 use borrow.Author.Tests.{eq-eqb}
 use Rattle.std.specs.Prelude.{Result, Ok, Err}
-use Rattle.std.specs.Coded.{le_prop}
 use Rattle.choice.proofs.Tests.{clash}
 use Rattle.report.specs.declared.Tally.{Tally}
 use Rattle.report.specs.declared.Refusal.{Refusal}
@@ -26,17 +25,11 @@ same_refused r s e l t =
     ∙ ap (λ (x : ℕ). record { refusal = s.refusal; line = x; table = r.table }) l
     ∙ ap (λ (x : List (List ℕ)). record { refusal = s.refusal; line = s.line; table = x }) t
 
--- the bound of a number has one proof
-same_found : (t u : List (List ℕ)) → t ≡ u → (n k : ℕ) → n ≡ k → (rs ss : List Tally) → rs ≡ ss → (w : n ≤ 16) (v : k ≤ 16)
-    → ◌≡◌ {A = Found} (record { table = t; count = n; rows = rs; within = w }) (record { table = u; count = k; rows = ss; within = v })
-same_found t u e n k l rs ss r =
-    subst
-    (λ (x : ℕ). (w : n ≤ 16) (v : x ≤ 16)
-    → ◌≡◌ {A = Found} (record { table = t; count = n; rows = rs; within = w }) (record { table = u; count = x; rows = ss; within = v })) l
-    (λ w v.
-    ap (λ (x : List (List ℕ)). record { table = x; count = n; rows = rs; within = w }) e
-    ∙ ap (λ (x : List Tally). record { table = u; count = n; rows = x; within = w }) r
-    ∙ ap (λ (x : n ≤ 16). record { table = u; count = n; rows = ss; within = x }) (le_prop w v))
+same_found : (m o : Found) → m.table ≡ o.table → m.count ≡ o.count → m.rows ≡ o.rows → m ≡ o
+same_found m o t n r =
+    ap (λ (x : List (List ℕ)). record { table = x; count = m.count; rows = m.rows }) t
+    ∙ ap (λ (x : ℕ). record { table = o.table; count = x; rows = m.rows }) n
+    ∙ ap (λ (x : List Tally). record { table = o.table; count = o.count; rows = x }) r
 
 -- nothing refused is told as a refusal
 accepted_told : (r : Refused) (n : ℕ) → n ≡ number r.refusal → n ≡ 0 → ⊥
@@ -54,8 +47,7 @@ told_one (Err r) (Err s) e =
 pub told_measured_one : (m o : Result Found Refused) → told_measured m ≡ told_measured o → m ≡ o
 told_measured_one (Ok m) (Ok o) e =
     ap (λ (x : Found). Ok x)
-    (same_found m.table o.table (ap (λ (x : Measured). x.told.table) e) m.count o.count (ap (λ (x : Measured). x.count) e)
-    m.rows o.rows (ap (λ (x : Measured). x.rows) e) m.within o.within)
+    (same_found m o (ap (λ (x : Measured). x.told.table) e) (ap (λ (x : Measured). x.count) e) (ap (λ (x : Measured). x.rows) e))
 told_measured_one (Ok m) (Err s) e = absurd (accepted_told s 0 (ap (λ (x : Measured). x.told.refusal) e) refl)
 told_measured_one (Err r) (Ok o) e = absurd (accepted_told r 0 (sym (ap (λ (x : Measured). x.told.refusal) e)) refl)
 told_measured_one (Err r) (Err s) e =
@@ -68,4 +60,7 @@ one_answer = record {
   to_report = λ text table rows r s after kept e f g h. (told_one r s (e ∙ sym g), f ∙ sym h);
   to_by_value = λ text table lent m o e f. told_measured_one m o (e ∙ sym f);
   to_added = λ t m r s e f. told_one r s (e ∙ sym f);
+  to_laid_down = λ m r s e f. e ∙ sym f;
+  of_number = λ refusal r s e f. e ∙ sym f;
+  of_schedule = λ schedule r s e f. e ∙ sym f;
 }

@@ -40,12 +40,12 @@ pub(crate) struct Account {
 pub(crate) fn told_apart(event: u8, before: u8, after: u8) -> Did
     ensures { result ≡ did_by event before after }
 {
-    let step = event == Event::Step as u8;
-    let taken = (before == Place::Poll as u8) & (after == Place::Service as u8);
-    let old_taken = (before == Place::OldPoll as u8) & (after == Place::OldService as u8);
+    let step = event == u8::from(Event::Step);
+    let taken = (before == u8::from(Place::Poll)) & (after == u8::from(Place::Service));
+    let old_taken = (before == u8::from(Place::OldPoll)) & (after == u8::from(Place::OldService));
     Did {
-        joined: step & (before == Place::Swap as u8),
-        entered: step & (after == Place::Inside as u8),
+        joined: step & (before == u8::from(Place::Swap)),
+        entered: step & (after == u8::from(Place::Inside)),
         interrupted: step & (taken | old_taken),
     }
 }

@@ -1,6 +1,7 @@
 // Along a schedule: its own refusal with the line, or N and the accounts of its processors. The loop goes from line to line as the
 // bench's does, and both by the definitions of bench's Bridge. The state stands in the loop and each line changes it there, since a
-// state that is handed on is copied with all its rows.
+// state that is answered is copied with all its rows. `turn` and `begin` are not bench's: bench's say what becomes of the log, and as public
+// functions they would have to ask for a sound state.
 ghost use Rattle.std.specs.Prelude.{◌<◌, ◌≤◌, length};
 ghost use Rattle.lock.specs.Kept.{Whole};
 ghost use Rattle.bench.specs.Log.{longest};

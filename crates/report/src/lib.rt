@@ -11,7 +11,7 @@ mod reporting;
 mod tables;
 mod told;
 
-ghost use Rattle.std.specs.Prelude.{◌≡◌, ◌≤◌, take};
+ghost use Rattle.std.specs.Prelude.{◌≡◌, take};
 ghost use Rattle.report.specs.Named.{number};
 ghost use Rattle.report.specs.declared.Refusal.TheVariants.{Schedule};
 
@@ -37,7 +37,7 @@ pub enum Refusal {
     TooMany,
 }
 
-// A refusal and its line, 0 where it has none, with the table as it was.
+// A refusal and its line, 0 where it has none (as an 05 line has it), with the table as it was.
 #[derive(Clone, Copy, Debug, PartialEq, Eq)]
 pub struct Refused {
     pub refusal: Refusal,
@@ -45,13 +45,13 @@ pub struct Refused {
     pub table: Table,
 }
 
-// The report of one schedule by value: the table with its counts added, and its tallies, so many in the first of these rows.
+// The report of one schedule by value: the table with its counts added, and its tallies, so many in the first of these rows. An array and a
+// count, as no heap is wanted and `measured_of` determines all sixteen rows.
 #[derive(Clone, Copy, Debug, PartialEq, Eq)]
 pub struct Measured {
     pub table: Table,
     pub count: usize,
     pub rows: [Tally; 16],
-    ghost within: { count ≤ 16 },
 }
 
 impl Measured {
@@ -59,7 +59,7 @@ impl Measured {
     pub fn laid_down(&self) -> &[Tally]
         ensures { result.now ≡ take self.now.count self.now.rows }
     {
-        &self.rows[..self.count]
+        &self.rows[..self.count.min(16)]
     }
 }
 

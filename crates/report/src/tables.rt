@@ -4,19 +4,14 @@ ghost use Rattle.report.specs.Table.{told, row_holds, row_sum, table_holds, tabl
 
 use crate::{Refusal, Refused, Table};
 
-// The greatest count.
-const GREATEST: u64 = 4294967295;
-
 // Every sum of two rows is a count.
 fn row_holds(t: &[u32; 16], m: &[u32; 16]) -> bool
     ensures { result ≡ row_holds t.now m.now }
 {
-    t.iter()
-        .zip(m)
-        .all(|(x, y)| u64::from(*x) + u64::from(*y) <= GREATEST)
+    t.iter().zip(m).all(|(x, y)| x.checked_add(*y).is_some())
 }
 
-// A row added to a row. Called at each entry, so in place.
+// A row added to a row. Called at each entry, so in place. The second by its places, since an adapter of `iter_mut` forgets what it goes over.
 pub(crate) fn add_row(t: &mut [u32; 16], m: &[u32; 16])
     requires { row_holds t.old m.now ≡ true }
     ensures { t.new ≡ row_sum t.old m.now }
@@ -33,7 +28,7 @@ fn table_holds(t: &Table, m: &Table) -> bool
     t.iter().zip(m).all(|(t, m)| row_holds(t, m))
 }
 
-// A table added to a table.
+// A table added to a table, likewise. Row and table have a definition each, and the table's function is the row's at each row.
 fn add_table(t: &mut Table, m: &Table)
     requires { table_holds t.old m.now ≡ true }
     ensures { t.new ≡ table_sum t.old m.now }

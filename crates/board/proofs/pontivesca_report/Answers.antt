@@ -23,7 +23,7 @@ returns-in-Ok c =
       table_after = ap (λ (r : Reported). r.table) answer;
       rows_after =
           numbers_are text table c.args.rows.now (told_measured (Ok m)) c.laid_down.result.now c.lay.new.rows c.in-Ok.ensures.value
-          c.laid_down.ensures (ap length c.laid_down.ensures ∙ length-take-le m.count m.rows (omega (arith, m.within))) c.lay.ensures;
+          c.laid_down.ensures (ap length c.laid_down.ensures ∙ length-take-le m.count m.rows (omega (arith, rows, c.in-Ok.ensures.count_le_lent.1))) c.lay.ensures;
     }
 
 pub returns-in-Err : goal.returns-in-Err

@@ -48,8 +48,8 @@ returns-in_err-sum-clause-value c =
     (told_measured (Err r)) refl).0
 
 -- nothing is refused
-pub invariant_of-result : goal.invariant_of-result
-invariant_of-result c =
+pub returns-clause-count_le_lent : goal.returns-clause-count_le_lent
+returns-clause-count_le_lent c =
     let a = c.args in
     let h = c.in_ok-n.field-0 in
     let found =
@@ -59,7 +59,7 @@ invariant_of-result c =
     counted a.schedule.now a.table a.lent (told (Ok h)) found refl (le-ltb a.lent h.n (omega (arith, c.from-n.ensures)))
     (report_told (Ok c.in_ok-sum.sum)) (c.in_ok-sum.ensures ∙ ap (added_to a.table) c.charges.ensures) refl c.tallies.result
     c.tallies.ensures in
-    record { within = omega (arith, c.from-n.ensures, ended.1.1) }
+    (omega (arith, c.from-n.ensures, ended.1.0), omega (arith, c.from-n.ensures, ended.1.1))
 
 pub returns-clause-value : goal.returns-clause-value
 returns-clause-value c =
