@@ -8,13 +8,11 @@ use std::io::Read;
 // One byte more than the longest schedule, so that a longer one is seen.
 const SCHEDULE: usize = bench::LONGEST + 1;
 
-// Room for the log of 6,001 lines: what `bench::room_for` answers for the longest schedule, which a constant can't ask.
-const LOG: usize = 102028;
-
+// Both buffers are arrays: the program has no heap.
 fn main(rt: HostRuntime) {
     let mut schedule = [0u8; SCHEDULE];
     let n = read_full(&mut rt.stdin(), &mut schedule);
-    let mut log = [0u8; LOG];
+    let mut log = [0u8; bench::ROOM];
     let Ok(length) = bench::bench(&schedule[..n], &mut log) else {
         return;
     };

@@ -69,29 +69,29 @@ impl Account {
         requires { Fits self.old }
         ensures { self.new ≡ seen_by self.old «own» call.p call.did }
     {
-        let did = call.did;
-        let joins = own & did.joined;
-        let enters = own & did.entered;
-        charge(
-            &mut self.charged,
-            &self.pending,
-            enters & self.joined & !joins,
-        );
-        pend(&mut self.pending, call, joins);
-        self.joined = self.joined | joins;
-        self.tally = with_call(self.tally, enters, own & did.interrupted, joins);
+        let did = Did {
+            joined: own & call.did.joined,
+            entered: own & call.did.entered,
+            interrupted: own & call.did.interrupted,
+        };
+        let charges = did.entered & self.joined & !did.joined;
+        charge(&mut self.charged, &self.pending, charges);
+        pend(&mut self.pending, call, did.joined);
+        self.joined |= did.joined;
+        self.tally = with_call(self.tally, did);
     }
 }
 
+// A tally, and what its own processor's call was for.
 #[tactic(auto, unfolding(crate::specs::Accounts::tallied))]
-fn with_call(tally: Tally, enters: bool, taken: bool, joins: bool) -> Tally
+fn with_call(tally: Tally, did: Did) -> Tally
     requires { TallyFits tally }
-    ensures { result ≡ tallied tally «enters» «taken» «joins» }
+    ensures { result ≡ tallied tally did.entered did.interrupted did.joined }
 {
     Tally {
-        entries: tally.entries + u32::from(enters),
-        interrupts: tally.interrupts + u32::from(taken),
-        joins: tally.joins + u32::from(joins),
+        entries: tally.entries + u32::from(did.entered),
+        interrupts: tally.interrupts + u32::from(did.interrupted),
+        joins: tally.joins + u32::from(did.joined),
     }
 }
 
