@@ -16,7 +16,7 @@ mod told;
 mod turns;
 
 pub use frame::NoRoom;
-pub use opening::{LONGEST, bench, room_for};
+pub use opening::{LONGEST, ROOM, bench, room_for};
 
 // Why a schedule is turned away: it is too long, a line of it is none, or the lock refuses what a line asks for.
 #[derive(Clone, Copy, Debug, PartialEq, Eq)]
