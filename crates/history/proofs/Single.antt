@@ -71,7 +71,7 @@ refused_back A E (Lock Unsound) a e = refl
 refused_back A E NothingLeft a e = refl
 
 abbrev refused_with : History → Refusal → Refused
-refused_with h r = record { refusal = r; state = h }
+refused_with h r = record { state = h; refusal = r }
 
 abbrev begun_of : Outcome → Result History Refused
 begun_of o = answer_of _ _ o.refusal o.state (refused_with o.state)

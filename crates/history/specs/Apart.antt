@@ -2,8 +2,7 @@
 -- the state, and of the journal's slot, position and depth. That this is the event is proved in proofs/Turning.
 use Rattle.std.specs.Prelude.{ℕ, cond, not, ◌==◌, slice_index_or, slice_set, Result, Ok, Err}
 use Rattle.lock.specs.declared.LockState.{LockState}
-use Rattle.lock.specs.Event.{Answer}
-use Rattle.lock.specs.Event.{carried}
+use Rattle.lock.specs.Event.{Answer, carried}
 use Rattle.history.specs.declared.Entry.{Entry}
 use Rattle.history.specs.declared.Journal.{Journal}
 use Rattle.history.specs.declared.Moved.{Moved}
@@ -18,6 +17,7 @@ pub record Move : Type 0 where
   pub processor : ℕ
   pub lock : LockState
 
+-- refused by that number: the byte that was given, and the same state
 abbrev pub stays : ℕ → ℕ → LockState → Move
 stays number p s = record { refusal = number; processor = p; lock = s }
 
@@ -32,6 +32,7 @@ moved_back s depth e p =
     cond (not (p == 0)) (stays 9 p s)
     (cond (depth == 0) (stays 14 p s) (record { refusal = 0; processor = e.processor; lock = restored s e }))
 
+-- the lock's answer to a step or raise, which shows the row of the byte that was given
 abbrev pub moved_on : ℕ → Answer → Move
 moved_on p a = record { refusal = a.refusal; processor = p; lock = a.state }
 
@@ -43,6 +44,7 @@ moved s depth e event p = cond (is_undo event) (moved_back s depth e p) (moved_o
 unfoldable pub slot_then : ℕ → Entry → Entry → Entry
 slot_then event there made = cond (is_undo event) there made
 
+-- where the next entry goes, and how many can be undone: one back and one less after an undo, else one on and one more
 unfoldable pub top_then : ℕ → ℕ → ℕ
 top_then event top = cond (is_undo event) (previous top) (next top)
 

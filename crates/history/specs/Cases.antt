@@ -10,14 +10,14 @@ use Rattle.lock.specs.State.{processors, none, guarded, RP, Preempted, row}
 use Rattle.lock.specs.Run.{Call}
 use Rattle.lock.specs.Cases.{step, raise, steps}
 use Rattle.history.specs.declared.History.{History}
-use Rattle.history.specs.Event.{Outcome}
-use Rattle.history.specs.Event.{begun, goes}
+use Rattle.history.specs.Event.{Outcome, begun, goes}
 use Rattle.history.specs.Survivors.{afterward, walk}
 
--- what an event on a state, or the making of the fresh state, is refused by; 0: accepted
+-- whether an event on a state, or the making of the fresh state, is refused by that number; by 0: is accepted
 abbrev pub answers : Outcome → ℕ → Bool
 answers a refusal = a.refusal == refusal
 
+-- the fresh state of an edition and N, with nothing to undo
 abbrev pub start : ℕ → ℕ → History
 start e n = (begun e n).state
 

@@ -9,8 +9,7 @@ use Rattle.lock.specs.Run.{Call, enters, is_inside}
 use Rattle.lock.specs.Count.{entries_in, all_entries_in, latest_join}
 use Rattle.lock.specs.Claims.{reached, AnyEdition, waited, Waits, LastJoin}
 use Rattle.history.specs.declared.History.{History}
-use Rattle.history.specs.Event.{Outcome}
-use Rattle.history.specs.Event.{unwritten, begun, is_undo, is_whole, goes}
+use Rattle.history.specs.Event.{Outcome, unwritten, begun, is_undo, is_whole, goes}
 use Rattle.history.specs.Survivors.{survivors, who_in, walk}
 
 -- the state, journal aside, after a schedule of events and undos from the fresh state
@@ -110,7 +109,7 @@ pub record DemandThree : Type 0 where
 -- ---- soundness
 
 -- An accepted event on any history gives one that the first 11 does not refuse, whatever the journal held. That there are sixteen rows
--- is a premise as in lock's Kept.
+-- is a premise as in lock's Kept: a value of the Rattle type always has them, but the list in a definition may be shorter.
 abbrev pub SoundIsKept : Type 0
 SoundIsKept =
     (h : History) (event p : ℕ)

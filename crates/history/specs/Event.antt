@@ -3,9 +3,8 @@
 -- again, where a handed-in journal would bring back an unsound state." So the order for an undo is 11, 8, 9, 14, 11.
 use Rattle.std.specs.Prelude.{ℕ, Bool, cond, not, ◌&&◌, ◌==◌, nat_lt, Result, Ok, Err}
 use Rattle.lock.specs.declared.LockState.{LockState}
-use Rattle.lock.specs.Event.{Answer}
+use Rattle.lock.specs.Event.{Answer, fresh, carried}
 use Rattle.lock.specs.Sound.{sound}
-use Rattle.lock.specs.Event.{fresh, carried}
 use Rattle.history.specs.declared.Entry.{Entry}
 use Rattle.history.specs.declared.Journal.{Journal}
 use Rattle.history.specs.declared.History.{History}
@@ -75,6 +74,7 @@ unfoldable pub recorded : History → ℕ → Answer → Outcome
 recorded h p a =
     cond (a.refusal == 0) (accepted p a.state (pushed h.journal (entry_of h.lock p))) (refused a.refusal p h)
 
+-- an event, by its number, with the processor byte p: 11 first, then an undo, or one of the lock's two
 unfoldable pub goes : History → ℕ → ℕ → Outcome
 goes h event p =
     cond (not (is_whole h)) (refused 11 p h)

@@ -21,6 +21,7 @@ abbrev pub refusal_number : Refusal → ℕ
 refusal_number (Lock refusal) = Lower.refusal_number refusal
 refusal_number NothingLeft = 14
 
+-- each keeps its number
 abbrev pub of_lock : LockRefusal → Refusal
 of_lock refusal = Lock refusal
 

@@ -1,5 +1,6 @@
--- Two answers that meet the contract of a public function are one: each contract is an equation with a definition of the inputs, of the
--- answer or of what it says; and what an answer says determines it.
+-- Two answers that meet the contract of a public function are one. Each contract but one is an equation with a definition of the inputs,
+-- of the answer or of what it says, and what an answer says determines it; `NamesEvent`, which tells by cases what a number is taken
+-- for, leaves one answer too.
 use Rattle.std.specs.Prelude.{ℕ, ◌≡◌, Result}
 use Rattle.lock.specs.declared.LockState.{LockState}
 use Rattle.lock.specs.declared.Refusal.{Refusal as LockRefusal}

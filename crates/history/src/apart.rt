@@ -9,6 +9,7 @@ ghost use Rattle.history.specs.Event.{is_undo};
 use crate::{Entry, Event, Moved, Refusal, ring};
 use lock::LockState;
 
+// An undo: 9, then 14, then the way back over the newest entry.
 #[tactic(auto, unfolding(crate::specs::Apart::moved_back))]
 fn moved_back(s: LockState, depth: u16, e: Entry, p: u8) -> Result<Moved<LockState>, Refusal>
     ensures { Apart.told s p result ≡ Apart.moved_back s depth e p }
@@ -64,6 +65,7 @@ pub fn slot_then(event: u8, there: Entry, made: Entry) -> Entry
     if is_undo(event) { there } else { made }
 }
 
+// An undo goes back to the entry that it took, any other event goes on to the next.
 #[tactic(auto, unfolding(crate::specs::Apart::top_then))]
 pub fn top_then(event: u8, top: u8) -> u8
     ensures { result ≡ Apart.top_then event top }
@@ -75,6 +77,7 @@ pub fn top_then(event: u8, top: u8) -> u8
     }
 }
 
+// One entry less can be undone after an undo, one more after any other event.
 #[tactic(auto, unfolding(crate::specs::Apart::depth_then))]
 pub fn depth_then(event: u8, depth: u16) -> u16
     ensures { result ≡ Apart.depth_then event depth }

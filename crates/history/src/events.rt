@@ -22,6 +22,7 @@ impl History {
         }
     }
 
+    // A lock with nothing to undo.
     fn unwritten(lock: LockState) -> History
         ensures { result ≡ unwritten lock }
     {
@@ -46,37 +47,38 @@ impl History {
         }
     }
 
-    // Event 1.
+    // A step of p, event 1.
     pub fn step(self, p: u8) -> Result<Moved<History>, Refused>
         ensures { told p result ≡ goes self 1 p }
     {
         self.event(u8::from(lock::Event::Step), p)
     }
 
-    // Event 2.
+    // A raise of p's flag, event 2.
     pub fn raise(self, p: u8) -> Result<Moved<History>, Refused>
         ensures { told p result ≡ goes self 2 p }
     {
         self.event(u8::from(lock::Event::Raise), p)
     }
 
-    // Event 3; its processor byte is 0.
+    // The newest event taken back, event 3; its processor byte is 0.
     pub fn undo(self) -> Result<Moved<History>, Refused>
         ensures { told 0 result ≡ goes self 3 0 }
     {
         self.event(u8::from(Event::Undo), 0)
     }
 
-    // The same state back.
+    // A refused event gives the same state back, its journal too.
     fn refused(self, refusal: Refusal) -> Refused
-        ensures { result ≡ record { refusal = refusal; state = self } }
+        ensures { result ≡ record { state = self; refusal = refusal } }
     {
         Refused {
-            refusal,
             state: self,
+            refusal,
         }
     }
 
+    // What the first 11 asks for: a state handed in may be unsound, and its depth may pass the ring's room.
     #[tactic(auto, unfolding(crate::specs::Event::is_whole))]
     fn is_whole(self) -> bool
         ensures { result ≡ is_whole self }
@@ -84,7 +86,7 @@ impl History {
         self.lock.is_sound() && self.journal.in_range()
     }
 
-    // No entry is written: an undo takes one off.
+    // Refused by 9, 14 and 11, in this order. No entry is written: an undo takes one off.
     #[tactic(auto, unfolding(crate::specs::Event::undone, crate::specs::Event::stepped_back))]
     fn undone(self, p: u8) -> Result<Moved<History>, Refused>
         ensures { told p result ≡ undone self p }
@@ -108,7 +110,7 @@ impl History {
         })
     }
 
-    // The lock's own two events: written down as they were before, also where nothing changes.
+    // The lock's own two events. What an event can change is written down as it was before, also where nothing changes.
     #[tactic(auto, unfolding(crate::specs::Event::recorded))]
     fn recorded(self, event: lock::Event, p: u8) -> Result<Moved<History>, Refused>
         ensures { told p result ≡ recorded self p (carried self.lock (event_number event) p) }

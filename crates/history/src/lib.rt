@@ -29,7 +29,8 @@ pub struct Entry {
     pub tail: u8,
 }
 
-// A ring: the next entry goes to `top`, and `depth` entries before it can be undone.
+// A ring: the next entry goes to `top`, and `depth` entries before it can be undone. `depth` stands beside the array since document 01
+// prescribes a ring of 256 elements, "all entries empty at the start": it always has them all, and how many count is not its length.
 #[derive(Clone, Copy, Debug, PartialEq, Eq)]
 pub struct Journal {
     pub entries: [Entry; ROOM],
@@ -68,8 +69,9 @@ pub struct Moved<S> {
 // A refusal, with the same state back; beside a fresh state's stands the filler.
 #[derive(Clone, Copy, Debug, PartialEq, Eq)]
 pub struct Refused {
-    pub refusal: Refusal,
+    // first, as in `Ok`: at another place in the two the state would be moved at each answer
     pub state: History,
+    pub refusal: Refusal,
 }
 
 impl From<Event> for u8 {

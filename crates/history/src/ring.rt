@@ -5,17 +5,25 @@ ghost use Rattle.history.specs.Journal.{empty_row, empty_entry, empty_journal, e
 ghost use Rattle.history.specs.Event.{brings_back};
 
 use crate::{Entry, Journal, ROOM};
-use lock::{LockState, Row};
+use lock::{LockState, Place, Row};
 
-// The row beside its own that a step at p's place may write: pred's at link and claim, succ's where one hands on. A row's place is a
-// byte for the theorems' sake, so its numbers stand here; the names that lock has for them are its own.
+// The row beside its own that a step at p's place may write: pred's at link and claim, succ's where one hands on. A byte that is no
+// place (a row may be handed in with one) has no neighbour.
 #[tactic(auto, unfolding(lock::specs::Touched::neighbour_of))]
 fn neighbour_of(r: Row, p: u8) -> u8
     ensures { result ≡ neighbour_of r p }
 {
-    match r.place {
-        5..=6 => r.pred,
-        17..=22 | 27 => r.succ,
+    match Place::try_from(r.place) {
+        Ok(Place::Link | Place::Claim) => r.pred,
+        Ok(
+            Place::Hand
+            | Place::Fence
+            | Place::Park
+            | Place::Peek
+            | Place::Take
+            | Place::Lift
+            | Place::Reread,
+        ) => r.succ,
         _ => p,
     }
 }
@@ -82,11 +90,7 @@ impl Entry {
         ensures { result ≡ cond (brings_back s self) (Some (restored s self)) None }
     {
         let back = self.restored(s);
-        if self.processor < s.n && self.neighbour < s.n && back.is_sound() {
-            Some(back)
-        } else {
-            None
-        }
+        (self.processor < s.n && self.neighbour < s.n && back.is_sound()).then_some(back)
     }
 }
 

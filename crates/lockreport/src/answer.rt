@@ -3,7 +3,8 @@
 use report::{Refused, Tally};
 use std::fmt;
 
-// The refusal, its line and the number of rows laid down, then these rows.
+// The refusal, its line and the number of rows laid down, then these rows. It is the printed form (docs/RANDOM.md): of what is not refused
+// refusal and line are printed as 0.
 #[derive(Clone, Copy)]
 pub struct Answer<'a> {
     refusal: u8,

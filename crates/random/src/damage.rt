@@ -40,6 +40,32 @@ const CELLS: [Cell; 12] = [
     Cell::NAlone,
 ];
 
+// Where the test of soundness stands that the damage comes near.
+#[derive(Clone, Copy, PartialEq, Eq)]
+enum Edge {
+    // the state's own cells
+    State,
+    // a reference that the row's place needs
+    Need,
+    Place,
+    // a cell of a row in use
+    Row,
+    // a cell of a row that is mostly not in use
+    Far,
+}
+
+// By their numbers, 0 to 7.
+const EDGES: [Edge; 8] = [
+    Edge::State,
+    Edge::Need,
+    Edge::Need,
+    Edge::Place,
+    Edge::Place,
+    Edge::Row,
+    Edge::Far,
+    Edge::Far,
+];
+
 pub fn damaged(setup: Setup, dice: &mut Dice) -> LockState {
     let mut state = state::sound(setup, dice);
     match dice.roll(4) {
@@ -60,10 +86,10 @@ fn anywhere(state: &mut LockState, dice: &mut Dice) {
 
 // A cell, a row and a value at which a test of soundness turns.
 fn near(setup: Setup, state: &mut LockState, dice: &mut Dice) {
-    let edge = dice.roll(8);
+    let edge = dice.one_of(&EDGES);
     let cell = near_cell(edge, dice);
     let row = near_row(setup, edge, dice);
-    if edge == 1 || edge == 2 {
+    if edge == Edge::Need {
         let place = needing(cell, dice);
         if state::has(setup.edition, place) {
             put(state, Cell::Place, row, place);
@@ -75,21 +101,21 @@ fn near(setup: Setup, state: &mut LockState, dice: &mut Dice) {
     }
 }
 
-fn near_cell(edge: usize, dice: &mut Dice) -> Cell {
+fn near_cell(edge: Edge, dice: &mut Dice) -> Cell {
     match edge {
-        0 => dice.one_of(&CELLS[8..]),
-        1 | 2 => dice.one_of(&[Cell::Pred, Cell::Succ, Cell::Nx]),
-        3 | 4 => Cell::Place,
-        _ => dice.one_of(&CELLS[..8]),
+        Edge::State => dice.one_of(&CELLS[8..]),
+        Edge::Need => dice.one_of(&[Cell::Pred, Cell::Succ, Cell::Nx]),
+        Edge::Place => Cell::Place,
+        Edge::Row | Edge::Far => dice.one_of(&CELLS[..8]),
     }
 }
 
-// Row 0, row N - 1 or any in use; for the last two edges row N, row 15 or any, for those from N on.
-fn near_row(setup: Setup, edge: usize, dice: &mut Dice) -> usize
+// Row 0, row N - 1 or any in use; for the far edge row N, row 15 or any, for those from N on.
+fn near_row(setup: Setup, edge: Edge, dice: &mut Dice) -> usize
     ensures { result < 16 }
 {
     let n = setup.n as usize;
-    let far = 6 <= edge;
+    let far = edge == Edge::Far;
     match dice.roll(3) {
         0 => if far { n % 16 } else { 0 },
         1 => if far { 15 } else { n - 1 },

@@ -1,4 +1,5 @@
-// States handed in at random, each with one event, and the digest of what comes back.
+// States handed in at random, each with one event, and the digest of what comes back. The events' numbers, 1 and 2, are docs/RANDOM.md's
+// own, since what makes the trials must not take them from what it tests.
 use crate::damage;
 use crate::dice::Dice;
 use crate::digest::Digest;
@@ -41,6 +42,7 @@ impl Block {
         let state = damage::damaged(setup, &mut dice);
         let event = event(&mut dice);
         let processor = processor(setup, &mut dice);
+        // As they are printed: the refusal by its number, 0 for accepted, and the state that comes back either way.
         let (refusal, after) = match state.event(event, processor) {
             Ok(after) => (0, after),
             Err(refused) => (u8::from(refused.refusal), refused.state),

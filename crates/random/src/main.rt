@@ -25,7 +25,7 @@ use handed::Block;
 use std::io;
 use tried::Tried;
 
-// Room for the log of 6,001 lines.
+// Room for the log of 6,001 lines. lockbench has the number too: `bench` answers the room of one schedule, and names no most.
 const ROOM: usize = 102028;
 
 // What cannot be written is left out; whoever compares what is printed sees it.

@@ -50,7 +50,8 @@ pub fn reported(alloc: Global, list: &[Entry], start: Table) -> Result<Told, All
     })
 }
 
-// An answer more: the refusal, its line, how many rows are laid down, and all rows lent.
+// An answer more, as the digest takes it: the refusal by its number, 0 for accepted; its line; how many rows are laid down; and all rows
+// lent.
 fn add_answer(digest: &mut Digest, refusal: u8, line: usize, tallies: &[Tally], entry: Entry) {
     let count = tallies.len();
     digest.add(&[refusal]);

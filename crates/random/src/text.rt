@@ -1,4 +1,6 @@
-// The bytes of a schedule: line by line in upper case, then the letters' case, and the damage that is done to them at last.
+// The bytes of a schedule: line by line in upper case, then the letters' case, and the damage that is done to them at last. The numbers
+// of lines and events, 1 and 2, and of what is damaged are docs/RANDOM.md's own, since what makes the schedules must not take them from
+// what it tests. The editions alone are named, in `setup`.
 use crate::dice::Dice;
 use crate::plan::{Case, Damage, Plan};
 use crate::setup::Setup;

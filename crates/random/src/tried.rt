@@ -33,6 +33,7 @@ impl Tried {
 
     // The place in each row in turn.
     fn add(&mut self, edition: u8, place: u8) -> Result<(), AllocError> {
+        // As the digest takes them: by their numbers, 0 for accepted.
         let mut refusals = [0; ROWS];
         for (row, refusal) in refusals.iter_mut().enumerate() {
             *refusal = match standing(edition, place, row).event(Event::Raise as u8, 0) {
