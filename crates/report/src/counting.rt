@@ -62,8 +62,8 @@ impl Account {
         }
     }
 
-    // After a call, which is the processor's own or another's. That there is room for it is no invariant of an account: after it
-    // there may be none.
+    // A call, which is the processor's own or another's. What is pending is charged before it changes. That there is room for the call is no
+    // invariant of an account: after it there may be none.
     #[tactic(auto, unfolding(crate::specs::Accounts::seen_by))]
     fn see(&mut self, own: bool, call: Accepted)
         requires { Fits self.old }
@@ -142,7 +142,7 @@ fn charges_row(accounts: &[Account; 16], a: usize) -> [u32; 16]
 pub(crate) fn charges(accounts: &[Account; 16]) -> Table
     ensures { result ≡ charges_by accounts.now }
 {
-    // A loop, since a closure that gives a row would need both its clauses.
+    // A loop: under `array::from_fn` the closure that gives a row would need its clauses written out, which is longer.
     let mut table = [[0; 16]; 16];
     for (a, row) in table.iter_mut().enumerate() {
         *row = charges_row(accounts, a);
