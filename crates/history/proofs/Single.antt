@@ -81,14 +81,14 @@ begun_back (Ok h) = refl
 begun_back (Err r) = refused_back _ _ r.refusal r.state (refused_with r.state)
 
 abbrev event_of : Outcome → Result (Moved History) Refused
-event_of o = answer_of _ _ o.refusal (record { processor = o.processor; state = o.state }) (refused_with o.state)
+event_of o = answer_of _ _ o.refusal (record { state = o.state; processor = o.processor }) (refused_with o.state)
 
 event_back : (p : ℕ) (a : Result (Moved History) Refused) → event_of (told p a) ≡ a
 event_back p (Ok m) = refl
 event_back p (Err r) = refused_back _ _ r.refusal _ (refused_with r.state)
 
 abbrev moved_of : Move → Result (Moved LockState) Refusal
-moved_of m = answer_of _ _ m.refusal (record { processor = m.processor; state = m.lock }) (λ r. r)
+moved_of m = answer_of _ _ m.refusal (record { state = m.lock; processor = m.processor }) (λ r. r)
 
 moved_back : (s : LockState) (p : ℕ) (a : Result (Moved LockState) Refusal) → moved_of (Apart.told s p a) ≡ a
 moved_back s p (Ok m) = refl

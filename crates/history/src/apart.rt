@@ -21,8 +21,8 @@ fn moved_back(s: LockState, depth: u16, e: Entry, p: u8) -> Result<Moved<LockSta
         return Err(Refusal::NothingLeft);
     }
     Ok(Moved {
-        processor: e.processor,
         state: e.restored(s),
+        processor: e.processor,
     })
 }
 
@@ -44,8 +44,8 @@ pub fn moved(
                 .carried(u8::from(event), p)
                 .map_err(|refused| refused.refusal)?;
             Ok(Moved {
-                processor: p,
                 state,
+                processor: p,
             })
         }
     }

@@ -59,11 +59,12 @@ pub enum Refusal {
     NothingLeft,
 }
 
-// An accepted event: the processor whose row an 03 line shows, and the state after it.
+// An accepted event: the state after it, and the processor whose row an 03 line shows.
 #[derive(Clone, Copy, Debug, PartialEq, Eq)]
 pub struct Moved<S> {
-    pub processor: u8,
+    // first, as in `Refused`
     pub state: S,
+    pub processor: u8,
 }
 
 // A refusal, with the same state back; beside a fresh state's stands the filler.

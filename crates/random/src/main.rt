@@ -25,16 +25,13 @@ use handed::Block;
 use std::io;
 use tried::Tried;
 
-// Room for the log of 6,001 lines. lockbench has the number too: `bench` answers the room of one schedule, and names no most.
-const ROOM: usize = 102028;
-
 // What cannot be written is left out; whoever compares what is printed sees it.
 fn main(rt: HostRuntime) {
     let _ = print_all(&rt);
 }
 
 fn print_all(rt: &(impl Print + AllocGlobal)) -> io::Result<()> {
-    let mut log = [0; ROOM];
+    let mut log = [0; bench::ROOM];
     schedules(rt, &mut log)?;
     states(rt)?;
     pairs(rt, &mut log)?;
