@@ -38,7 +38,8 @@ pub(crate) fn worth(b: u8) -> u8
     NO_DIGIT
 }
 
-// The upper-case digit that stands for v. The byte is tested, and not v, so that both digits of a pair are made alike.
+// The upper-case digit that stands for v, where std's `from_digit` gives lower case. The byte is tested, and not v, so that both digits of a
+// pair are made alike.
 #[tactic(auto, unfolding(crate::specs::Pairs::digit_of))]
 pub(crate) fn digit(v: u8) -> u8
     requires { v < 16 }

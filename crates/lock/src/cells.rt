@@ -22,6 +22,7 @@ impl LockState {
     pub fn put_row(self, p: u8, r: Row) -> LockState
         ensures { result ≡ put_row self p r }
     {
+        // Copied and written, since no struct update writes an element.
         let mut s = self;
         if p < LockState::PROCESSORS {
             s.rows[p as usize] = r;

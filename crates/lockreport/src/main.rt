@@ -25,7 +25,8 @@ const LENT: usize = 16;
 
 // What cannot be written is left out; who reads the lines counts them.
 fn main(rt: HostRuntime) {
-    // All schedules are read into it: to clear one for each would take longer than a short schedule's report.
+    // An array, as all buffers here, since the program has no heap. All schedules are read into it: to clear one for each would take longer
+    // than a short schedule's report.
     let mut schedule = [0u8; SCHEDULE];
     let mut table = [[0; 16]; 16];
     // The first word is the program's own name.
