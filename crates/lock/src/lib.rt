@@ -177,16 +177,15 @@ impl Row {
 }
 
 impl LockState {
-    // The limits.
+    // The limits: of processors, and how many places and editions have a name.
     pub const PROCESSORS: u8 = 16;
 
-    pub const PLACES: u8 = 29;
+    pub const PLACES: u8 = Place::Lost as u8 + 1;
+
+    pub const EDITIONS: u8 = Edition::Old as u8 + 1;
 
     // In the place of a processor; document 01 has the none mark as a constant of the state ("Which form to use where").
     pub const NONE: u8 = 255;
-
-    // How many editions there are.
-    pub const EDITIONS: u8 = 4;
 
     // Whether it is of that edition.
     pub(crate) fn is(self, edition: Edition) -> bool
@@ -195,8 +194,3 @@ impl LockState {
         self.edition == u8::from(edition)
     }
 }
-
-// The limits count what has a name.
-const _: () = prove!(LockState::PLACES == Place::Lost as u8 + 1);
-
-const _: () = prove!(LockState::EDITIONS == Edition::Old as u8 + 1);
