@@ -62,8 +62,7 @@ fn sound_row(edition: Edition, n: u8, i: usize, r: Row) -> bool
 
 impl LockState {
     fn sound_rows(self, edition: Edition) -> bool
-        requires { self.edition ≡ edition_number edition }
-        ensures { result ≡ every processors (Sound.sound_row self) }
+        ensures { self.edition ≡ edition_number edition → result ≡ every processors (Sound.sound_row self) }
     {
         // All rows, also after one that is not sound: so no row waits for the test of another.
         let mut ok = true;

@@ -19,4 +19,4 @@ returns c =
     let number = edition_number c.in-Ok.edition in
     let known : ltb c.args.self.edition editions ≡ true =
     ap (λ k. ltb k editions) c.in-Ok.ensures ∙ lt-ltb number editions (edition_below c.in-Ok.edition) in
-    simp (known, c.none_or_below.ensures, c.sound_rows.ensures)
+    simp (known, c.none_or_below.ensures, c.sound_rows.ensures c.in-Ok.ensures)

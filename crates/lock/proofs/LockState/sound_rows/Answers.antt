@@ -17,7 +17,7 @@ use Rattle.lock.proofs.LockState.sound_rows.Goals as goal
 
 pub loop-i-init : goal.loop-i-init
 unfolding every
-loop-i-init c = refl
+loop-i-init c = λ same. refl
 
 -- one row more
 one_more : (s : LockState) (e i : ℕ) (ok b : Bool) (r : Row) → s.edition ≡ e → r ≡ row s i → ok ≡ every i (sound_row s) → b ≡ cond (ltb i s.n) (cells_sound s.n r && place_sound e r) (as_fresh r) → (ok && b) ≡ every (i + 1) (sound_row s)
@@ -25,8 +25,8 @@ unfolding every sound_row
 one_more s e i ok b r same it all one = simp (add-one, all, one, it, ← same)
 
 pub loop-i-preserved : goal.loop-i-preserved
-loop-i-preserved c =
+loop-i-preserved c = λ same.
     let at = c.loop-i in
     let s = c.args.self in
     let n : length s.rows ≡ processors = search (length_mapped, rules) in
-    one_more s _ at.i _ _ _ c.requires (row_within s at.i (omega arith)) at.invariant c.sound_row-ok.ensures
+    one_more s _ at.i _ _ _ same (row_within s at.i (omega arith)) (at.invariant same) c.sound_row-ok.ensures
