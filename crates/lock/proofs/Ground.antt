@@ -2,7 +2,7 @@
 --     Rows, Writes     a state after one replaced row, and after an act, which writes one row or two
 --     Places           places by name and by number, and what holds of each by one computed test
 --     Facts            what each place is: the one table of places
---     Sets             a set of numbers, as a list and as the code tells it
+--     Sets             a set of numbers as a list
 --     Editions         which places an edition has: the rule is document 01's lists
 --     Calls            what becomes of a call: refused, a raise, or a step
 pub mod Rows

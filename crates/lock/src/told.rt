@@ -1,13 +1,25 @@
 // Every public contract of this crate, tied to its definition: each function here promises the definition and calls the public
 // function, so that a public contract that says less is refused. Nobody calls these. (The functions of `claims`, `kept` and `laws`
-// are empty: their proofs are of their contracts alone.)
+// are empty: their proofs are of their contracts alone.) The two limits that no function reads are tied here too.
 ghost use Rattle.std.specs.Prelude.{◌≡◌};
-ghost use Rattle.lock.specs.State.{row, put_row, put_tail};
-ghost use Rattle.lock.specs.Sound.{sound};
+ghost use Rattle.lock.specs.State.{editions, row, put_row, put_tail};
+ghost use Rattle.lock.specs.Sound.{places, sound};
 ghost use Rattle.lock.specs.Named.{edition_number, event_number, locked_number, place_number, refusal_number, NamesEdition, NamesEvent, NamesPlace};
 ghost use Rattle.lock.specs.Event.{told, fresh, happens, carried};
 
 use crate::{Edition, Event, LockState, Locked, NoPlace, Place, Refusal, Refused, Row};
+
+fn told_places() -> u8
+    ensures { result ≡ places }
+{
+    LockState::PLACES
+}
+
+fn told_editions() -> u8
+    ensures { result ≡ editions }
+{
+    LockState::EDITIONS
+}
 
 fn told_fresh(edition: u8, n: u8) -> Result<LockState, Refused>
     ensures { told result ≡ fresh edition n }
