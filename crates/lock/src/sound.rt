@@ -61,6 +61,7 @@ fn sound_row(edition: Edition, n: u8, i: usize, r: Row) -> bool
 }
 
 impl LockState {
+    // Of a state of that edition, which its caller has read from the byte: once a state, and not once a row.
     fn sound_rows(self, edition: Edition) -> bool
         ensures { self.edition ≡ edition_number edition → result ≡ every processors (Sound.sound_row self) }
     {
