@@ -70,29 +70,29 @@ refused_back A E (Lock NoSuchProcessor) a e = refl
 refused_back A E (Lock Unsound) a e = refl
 refused_back A E NothingLeft a e = refl
 
-abbrev refused_with : History → Refusal → Refused
-refused_with h r = record { state = h; refusal = r }
+abbrev refused_with : (S : Type 0) → S → Refusal → Refused S
+refused_with S s r = record { state = s; refusal = r }
 
-abbrev begun_of : Outcome → Result History Refused
-begun_of o = answer_of _ _ o.refusal o.state (refused_with o.state)
+abbrev begun_of : Outcome → Result History (Refused History)
+begun_of o = answer_of _ _ o.refusal o.state (refused_with _ o.state)
 
-begun_back : (a : Result History Refused) → begun_of (told_begun a) ≡ a
+begun_back : (a : Result History (Refused History)) → begun_of (told_begun a) ≡ a
 begun_back (Ok h) = refl
-begun_back (Err r) = refused_back _ _ r.refusal r.state (refused_with r.state)
+begun_back (Err r) = refused_back _ _ r.refusal r.state (refused_with _ r.state)
 
-abbrev event_of : Outcome → Result (Moved History) Refused
-event_of o = answer_of _ _ o.refusal (record { state = o.state; processor = o.processor }) (refused_with o.state)
+abbrev event_of : Outcome → Result (Moved History) (Refused History)
+event_of o = answer_of _ _ o.refusal (record { state = o.state; processor = o.processor }) (refused_with _ o.state)
 
-event_back : (p : ℕ) (a : Result (Moved History) Refused) → event_of (told p a) ≡ a
+event_back : (p : ℕ) (a : Result (Moved History) (Refused History)) → event_of (told p a) ≡ a
 event_back p (Ok m) = refl
-event_back p (Err r) = refused_back _ _ r.refusal _ (refused_with r.state)
+event_back p (Err r) = refused_back _ _ r.refusal _ (refused_with _ r.state)
 
-abbrev moved_of : Move → Result (Moved LockState) Refusal
-moved_of m = answer_of _ _ m.refusal (record { state = m.lock; processor = m.processor }) (λ r. r)
+abbrev moved_of : Move → Result (Moved LockState) (Refused LockState)
+moved_of m = answer_of _ _ m.refusal (record { state = m.lock; processor = m.processor }) (refused_with _ m.lock)
 
-moved_back : (s : LockState) (p : ℕ) (a : Result (Moved LockState) Refusal) → moved_of (Apart.told s p a) ≡ a
-moved_back s p (Ok m) = refl
-moved_back s p (Err r) = refused_back _ _ r _ (λ x. x)
+moved_back : (p : ℕ) (a : Result (Moved LockState) (Refused LockState)) → moved_of (Apart.told p a) ≡ a
+moved_back p (Ok m) = refl
+moved_back p (Err r) = refused_back _ _ r.refusal _ (refused_with _ r.state)
 
 pub only_one_answer_fits : OnlyOneAnswerFits
 only_one_answer_fits =
@@ -111,7 +111,7 @@ only_one_answer_fits =
       of_depth_then = λ event depth. only_one _ (depth_then event depth);
       begun_once = led_back _ _ told_begun begun_of begun_back;
       event_once = λ p. led_back _ _ (told p) event_of (event_back p);
-      moved_once = λ s p. led_back _ _ (Apart.told s p) moved_of (moved_back s p);
+      moved_once = λ p. led_back _ _ (Apart.told p) moved_of (moved_back p);
       of_event_number = λ event. only_one _ (event_number event);
       of_event_named = named_once;
       of_lock_refusal = λ refusal. only_one _ (of_lock refusal);

@@ -6,7 +6,7 @@ use Rattle.lock.specs.Event.{Answer, carried}
 use Rattle.history.specs.declared.Entry.{Entry}
 use Rattle.history.specs.declared.Journal.{Journal}
 use Rattle.history.specs.declared.Moved.{Moved}
-use Rattle.history.specs.declared.Refusal.{Refusal}
+use Rattle.history.specs.declared.Refused.{Refused}
 use Rattle.history.specs.Journal.{empty_entry, restored, deeper, shallower, next, previous}
 use Rattle.history.specs.Named.{refusal_number}
 use Rattle.history.specs.Event.{is_undo}
@@ -21,10 +21,10 @@ pub record Move : Type 0 where
 abbrev pub stays : ℕ → ℕ → LockState → Move
 stays number p s = record { refusal = number; processor = p; lock = s }
 
--- What the code's answer says, to an event on the state s with the byte p. A refusal leaves s as it is.
-abbrev pub told : LockState → ℕ → Result (Moved LockState) Refusal → Move
-told s p (Ok m) = record { refusal = 0; processor = m.processor; lock = m.state }
-told s p (Err r) = stays (refusal_number r) p s
+-- what the code's answer says, to an event with the byte p
+abbrev pub told : ℕ → Result (Moved LockState) (Refused LockState) → Move
+told p (Ok m) = record { refusal = 0; processor = m.processor; lock = m.state }
+told p (Err r) = stays (refusal_number r.refusal) p r.state
 
 -- an undo: 9, then 14, then the way back over the newest entry
 unfoldable pub moved_back : LockState → ℕ → Entry → ℕ → Move

@@ -29,12 +29,12 @@ abbrev pub refused : ℕ → ℕ → History → Outcome
 refused number p h = record { refusal = number; processor = p; state = h }
 
 -- "a definition gives this paper's number and values for each of its cases": what the code's answer to an event with the byte p says
-abbrev pub told : ℕ → Result (Moved History) Refused → Outcome
+abbrev pub told : ℕ → Result (Moved History) (Refused History) → Outcome
 told p (Ok m) = accepted m.processor m.state.lock m.state.journal
 told p (Err r) = refused (refusal_number r.refusal) p r.state
 
 -- and its answer where the fresh state is made, which shows no row
-abbrev pub told_begun : Result History Refused → Outcome
+abbrev pub told_begun : Result History (Refused History) → Outcome
 told_begun (Ok h) = accepted 0 h.lock h.journal
 told_begun (Err r) = refused (refusal_number r.refusal) 0 r.state
 

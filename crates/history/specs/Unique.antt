@@ -35,9 +35,9 @@ pub record OnlyOneAnswerFits : Type 0 where
   pub of_top_then : (event top : ℕ) → OnlyOne _ (top_then event top)
   pub of_depth_then : (event depth : ℕ) → OnlyOne _ (depth_then event depth)
   -- what the answers of fresh, of the events and of `moved` say
-  pub begun_once : SaidOnce (Result History Refused) _ told_begun
-  pub event_once : (p : ℕ) → SaidOnce (Result (Moved History) Refused) _ (told p)
-  pub moved_once : (s : LockState) (p : ℕ) → SaidOnce (Result (Moved LockState) Refusal) _ (Apart.told s p)
+  pub begun_once : SaidOnce (Result History (Refused History)) _ told_begun
+  pub event_once : (p : ℕ) → SaidOnce (Result (Moved History) (Refused History)) _ (told p)
+  pub moved_once : (p : ℕ) → SaidOnce (Result (Moved LockState) (Refused LockState)) _ (Apart.told p)
   -- the conversions
   pub of_event_number : (event : Event) → OnlyOne _ (event_number event)
   pub of_event_named : (k : ℕ) (a b : Result Event Refusal) → NamesEvent k a → NamesEvent k b → a ≡ b

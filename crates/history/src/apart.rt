@@ -6,19 +6,31 @@ ghost use Rattle.std.specs.Prelude.{◌≡◌};
 ghost use Rattle.history.specs.Apart as Apart;
 ghost use Rattle.history.specs.Event.{is_undo};
 
-use crate::{Entry, Event, Moved, Refusal, ring};
+use crate::{Entry, Event, Moved, Refusal, Refused, ring};
 use lock::LockState;
+
+// A refused event gives the same state back.
+fn refused(state: LockState, refusal: Refusal) -> Refused<LockState>
+    ensures { result ≡ record { state = state; refusal = refusal } }
+{
+    Refused { state, refusal }
+}
 
 // An undo: 9, then 14, then the way back over the newest entry.
 #[tactic(auto, unfolding(crate::specs::Apart::moved_back))]
-fn moved_back(s: LockState, depth: u16, e: Entry, p: u8) -> Result<Moved<LockState>, Refusal>
-    ensures { Apart.told s p result ≡ Apart.moved_back s depth e p }
+fn moved_back(
+    s: LockState,
+    depth: u16,
+    e: Entry,
+    p: u8,
+) -> Result<Moved<LockState>, Refused<LockState>>
+    ensures { Apart.told p result ≡ Apart.moved_back s depth e p }
 {
     if p != 0 {
-        return Err(Refusal::Lock(lock::Refusal::NoSuchProcessor));
+        return Err(refused(s, Refusal::Lock(lock::Refusal::NoSuchProcessor)));
     }
     if depth == 0 {
-        return Err(Refusal::NothingLeft);
+        return Err(refused(s, Refusal::NothingLeft));
     }
     Ok(Moved {
         state: e.restored(s),
@@ -34,20 +46,21 @@ pub fn moved(
     newest: Entry,
     event: u8,
     p: u8,
-) -> Result<Moved<LockState>, Refusal>
-    ensures { Apart.told s p result ≡ Apart.moved s depth newest event p }
+) -> Result<Moved<LockState>, Refused<LockState>>
+    ensures { Apart.told p result ≡ Apart.moved s depth newest event p }
 {
-    match Event::try_from(event)? {
-        Event::Undo => moved_back(s, depth, newest, p),
-        Event::Lock(event) => {
+    match Event::try_from(event) {
+        Ok(Event::Undo) => moved_back(s, depth, newest, p),
+        Ok(Event::Lock(event)) => {
             let state = s
                 .carried(u8::from(event), p)
-                .map_err(|refused| refused.refusal)?;
+                .map_err(|lock| refused(lock.state, Refusal::from(lock.refusal)))?;
             Ok(Moved {
                 state,
                 processor: p,
             })
         }
+        Err(refusal) => Err(refused(s, refusal)),
     }
 }
 

@@ -67,11 +67,11 @@ pub struct Moved<S> {
     pub processor: u8,
 }
 
-// A refusal, with the same state back; beside a fresh state's stands the filler.
+// A refusal, with the same state back, in `apart` the lock's; beside a fresh state's stands the filler.
 #[derive(Clone, Copy, Debug, PartialEq, Eq)]
-pub struct Refused {
+pub struct Refused<S = History> {
     // first, as in `Ok`: at another place in the two the state would be moved at each answer
-    pub state: History,
+    pub state: S,
     pub refusal: Refusal,
 }
 

@@ -64,8 +64,8 @@ fn told_moved(
     newest: Entry,
     event: u8,
     p: u8,
-) -> Result<Moved<LockState>, Refusal>
-    ensures { Apart.told s p result ≡ Apart.moved s depth newest event p }
+) -> Result<Moved<LockState>, Refused<LockState>>
+    ensures { Apart.told p result ≡ Apart.moved s depth newest event p }
 {
     apart::moved(s, depth, newest, event, p)
 }
