@@ -8,8 +8,10 @@ mod answer;
 mod table;
 
 use answer::Answer;
+use arrayvec::ArrayString;
 use report::Table;
 use std::env::{Env, FillError};
+use std::fmt::Write;
 use std::fs::{Files, OpenOptions};
 use std::io::Read;
 use table::Shown;
@@ -40,7 +42,7 @@ fn main(rt: HostRuntime) {
             Err(FillError::NotPresent) => break,
         }
     }
-    let _ = print!(rt; "{}", Shown(&table));
+    write_table(&rt, &table);
 }
 
 fn take_in(rt: &HostRuntime, word: &[u8], table: &mut Table, schedule: &mut [u8]) {
@@ -92,6 +94,13 @@ fn take_table(rt: &HostRuntime, path: &[u8], table: &mut Table) -> Option<()> {
 
 fn tell(rt: &impl Print, answer: Answer<'_>) {
     let _ = println!(rt; "{answer}");
+}
+
+// All of it by one call: the buffer of `print!` is shorter than the text.
+fn write_table(rt: &impl Print, table: &Table) {
+    let mut text = ArrayString::<{ table::LENGTH }>::new();
+    let _ = write!(text, "{}", Shown(table));
+    let _ = rt.write_all(text.as_str().as_bytes());
 }
 
 // How many bytes of the file stand at the buffer's start, or None where it cannot be opened. A name that is no UTF-8 cannot be.

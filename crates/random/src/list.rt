@@ -1,14 +1,13 @@
 // A list of schedules for a report (docs/RANDOM.md, "Reports"): which they are, and how many rows are lent to each.
-ghost use Rattle.std.specs.Prelude.{IfOk, ◌<◌, length, vec_len};
+ghost use Rattle.std.specs.Prelude.{◌≡◌, ◌<◌, length};
 
 use crate::dice::Dice;
 use crate::plan;
-use std::alloc::{AllocError, Global};
 
 pub const LISTS: u32 = 300;
 
 // A list has at most so many schedules.
-const LONGEST: usize = 6;
+pub const LONGEST: usize = 6;
 
 // A schedule is lent fewer rows than this: at most one more than there are processors.
 const LENT: usize = 18;
@@ -22,6 +21,9 @@ pub struct Entry {
 }
 
 impl Entry {
+    // Before it is drawn.
+    pub const BLANK: Entry = Entry { number: 0, lent: 0 };
+
     fn drawn(is_even: bool, dice: &mut Dice) -> Entry {
         let number = any(dice);
         if is_even {
@@ -47,17 +49,14 @@ fn any(dice: &mut Dice) -> u32 {
     }
 }
 
-// List i. In an even one no schedule is damaged.
-pub fn drawn(alloc: Global, i: u32, dice: &mut Dice) -> Result<Vec<Entry>, AllocError>
-    ensures { IfOk result (λ list. 0 < vec_len list) }
+// The entries of list i. In an even one no schedule is damaged.
+pub fn draw(i: u32, list: &mut [Entry], dice: &mut Dice)
+    ensures { length list.new ≡ length list.old }
 {
     let is_even = i % 2 == 0;
-    let more = dice.roll(LONGEST);
-    let mut list = vec![in alloc; Entry::drawn(is_even, dice)]?;
-    for _ in 0..more {
-        list.push(Entry::drawn(is_even, dice))?;
+    for entry in list {
+        *entry = Entry::drawn(is_even, dice);
     }
-    Ok(list)
 }
 
 // The other order: from schedule `turn` down to the first, then from the last down.

@@ -5,7 +5,6 @@ use crate::digest::Digest;
 use crate::list::Entry;
 use crate::text;
 use report::{Table, Tally};
-use std::alloc::{AllocError, Global};
 
 // What is told of a list: how many schedules are refused, the digest of all answers, and that of the table at the end.
 #[derive(Clone, Copy)]
@@ -16,22 +15,21 @@ pub struct Told {
 }
 
 // The table after one schedule alone, with all rows lent: where it is refused, zeros.
-pub fn alone(alloc: Global, number: u32) -> Result<Table, AllocError> {
-    let schedule = text::made(alloc, number)?;
-    match report::by_value(&schedule, [[0; 16]; 16], 16) {
-        Ok(measured) => Ok(measured.table),
-        Err(refused) => Ok(refused.table),
+pub fn alone(number: u32, room: &mut [u8; text::TOO_LONG]) -> Table {
+    match report::by_value(text::made(number, room), [[0; 16]; 16], 16) {
+        Ok(measured) => measured.table,
+        Err(refused) => refused.table,
     }
 }
 
 // All schedules of a list, in its order.
-pub fn reported(alloc: Global, list: &[Entry], start: Table) -> Result<Told, AllocError> {
+pub fn reported(list: &[Entry], start: Table, room: &mut [u8; text::TOO_LONG]) -> Told {
     let mut table = start;
     let mut refused: usize = 0;
     let mut answers = Digest::new();
     for entry in list {
-        let schedule = text::made(alloc, entry.number)?;
-        match report::by_value(&schedule, table, entry.lent) {
+        let schedule = text::made(entry.number, room);
+        match report::by_value(schedule, table, entry.lent) {
             Ok(m) => {
                 table = m.table;
                 add_answer(&mut answers, 0, 0, m.laid_down(), *entry);
@@ -43,11 +41,11 @@ pub fn reported(alloc: Global, list: &[Entry], start: Table) -> Result<Told, All
             }
         }
     }
-    Ok(Told {
+    Told {
         refused,
         answers,
         table: digest(table),
-    })
+    }
 }
 
 // An answer more, as the digest takes it: the refusal by its number, 0 for accepted; its line; how many rows are laid down; and all rows

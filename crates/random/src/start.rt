@@ -1,18 +1,17 @@
 // The table from which a list is reported (docs/RANDOM.md, "Reports"): zeros, or counts near the greatest, so that sums pass it.
 use crate::dice::Dice;
-use crate::reported;
+use crate::{reported, text};
 use report::Table;
-use std::alloc::{AllocError, Global};
 
 // For a list that begins with the schedule of that number.
-pub fn drawn(alloc: Global, number: u32, dice: &mut Dice) -> Result<Table, AllocError> {
+pub fn drawn(number: u32, dice: &mut Dice, room: &mut [u8; text::TOO_LONG]) -> Table {
     let mut table = [[0; 16]; 16];
     match dice.roll(4) {
         2 => near(&mut table, dice),
-        3 => edge(&mut table, reported::alone(alloc, number)?, dice),
+        3 => edge(&mut table, reported::alone(number, room), dice),
         _ => {}
     }
-    Ok(table)
+    table
 }
 
 // Each cell near the greatest count.

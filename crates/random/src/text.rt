@@ -1,60 +1,59 @@
 // The bytes of a schedule: line by line in upper case, then the letters' case, and the damage that is done to them at last. The numbers
 // of lines and events, 1 and 2, and of what is damaged are docs/RANDOM.md's own, since what makes the schedules must not take them from
 // what it tests. The editions alone are named, in `setup`.
+ghost use Rattle.std.specs.Prelude.{◌≤◌};
+
 use crate::dice::Dice;
 use crate::plan::{Case, Damage, Plan};
 use crate::setup::Setup;
-use std::alloc::{AllocError, Global};
 
 // The bytes of a line.
 const LINE: usize = 9;
 
 // One byte more than the longest schedule has. A number of the page's own: it must not come from what it tests.
-const TOO_LONG: usize = 54010;
+pub const TOO_LONG: usize = 54010;
 
 // No digits in either case: the six bytes beside the digits, a letter past them, and an A with the highest bit set.
 const NO_DIGITS: [u8; 8] = [47, 58, 64, 71, 96, 103, 122, 193];
 
-// Schedule number i.
-pub fn made(alloc: Global, i: u32) -> Result<Vec<u8>, AllocError> {
+// Schedule number i, at the front of the room that all schedules are made in.
+pub fn made(i: u32, room: &mut [u8; TOO_LONG]) -> &[u8] {
     let mut dice = Dice::seeded(i, 17);
     let plan = Plan::drawn(i, &mut dice);
-    let mut text = Vec::new(alloc);
-    write_header(plan, &mut dice, &mut text)?;
-    write_events(plan, &mut dice, &mut text)?;
-    set_case(plan.case, &mut dice, &mut text);
-    harm(plan, &mut dice, &mut text)?;
-    Ok(text)
+    let length = LINE * (plan.count + 1);
+    let (header, events) = room[..length].split_at_mut(LINE);
+    write_header(plan, &mut dice, header);
+    write_events(plan, &mut dice, events);
+    set_case(plan.case, &mut dice, &mut room[..length]);
+    let end = harm(plan, &mut dice, room);
+    &room[..end]
 }
 
-fn write_line(text: &mut Vec<u8>, values: [u8; 3]) -> Result<(), AllocError> {
+fn write_line(line: &mut [u8], values: [u8; 3]) {
     let [first, second, third] = values;
-    let mut line = [0; LINE];
-    let _ = frame::write_frame(&mut line, first, second, third);
-    text.extend_from_slice(&line)
+    let _ = frame::write_frame(line, first, second, third);
 }
 
-fn write_header(plan: Plan, dice: &mut Dice, text: &mut Vec<u8>) -> Result<(), AllocError> {
+fn write_header(plan: Plan, dice: &mut Dice, line: &mut [u8]) {
     let Setup { edition, n } = plan.setup;
     let values = match plan.damage {
         Some(Damage::Edition) => [1, 4 + dice.roll(252) as u8, n],
         Some(Damage::N) => [1, edition as u8, zero_or_from(17, dice)],
         _ => [1, edition as u8, n],
     };
-    write_line(text, values)
+    write_line(line, values);
 }
 
-fn write_events(plan: Plan, dice: &mut Dice, text: &mut Vec<u8>) -> Result<(), AllocError> {
+fn write_events(plan: Plan, dice: &mut Dice, lines: &mut [u8]) {
     let mut p = 0;
-    for j in 1..=plan.count {
+    for (j, line) in (1..=plan.count).zip(lines.chunks_mut(LINE)) {
         if dice.roll(plan.stay) == 0 {
             p = plan.setup.processor(dice);
         }
         let event = if dice.roll(8) < plan.raises { 2 } else { 1 };
         let damage = if j == plan.victim { plan.damage } else { None };
-        write_line(text, event_line(event, p, plan.setup.n, damage, dice))?;
+        write_line(line, event_line(event, p, plan.setup.n, damage, dice));
     }
-    Ok(())
 }
 
 // The values of an event line, with the damage that they take.
@@ -91,20 +90,25 @@ fn set_case(case: Case, dice: &mut Dice, text: &mut [u8]) {
     }
 }
 
-// The damage to the whole text.
-fn harm(plan: Plan, dice: &mut Dice, text: &mut Vec<u8>) -> Result<(), AllocError> {
+// The damage to the whole text; answers its length.
+fn harm(plan: Plan, dice: &mut Dice, text: &mut [u8; TOO_LONG]) -> usize
+    ensures { result ≤ 54010 }
+{
     let length = LINE * (plan.count + 1);
     match plan.damage {
         Some(Damage::AnyByte) => {
             let at = dice.roll(length);
             put(text, at, dice.byte());
         }
-        Some(Damage::Cut) => text.truncate(dice.roll(length)),
+        Some(Damage::Cut) => return dice.roll(length),
         Some(Damage::NoDigit) => {
             let at = LINE * dice.roll(plan.count + 1) + dice.roll(8);
             put(text, at, no_digit(plan.case, dice));
         }
-        Some(Damage::TooLong) => text.resize(TOO_LONG, b'\n')?,
+        Some(Damage::TooLong) => {
+            text[length..].fill(b'\n');
+            return TOO_LONG;
+        }
         Some(Damage::Check) => {
             let at = LINE * plan.victim + 7;
             let is_zero = text.get(at) == Some(&b'0');
@@ -112,7 +116,7 @@ fn harm(plan: Plan, dice: &mut Dice, text: &mut Vec<u8>) -> Result<(), AllocErro
         }
         _ => {}
     }
-    Ok(())
+    length
 }
 
 // a byte that is no digit; in upper case one between 9 and A

@@ -3,36 +3,38 @@
 use crate::digest::Digest;
 use crate::state;
 use lock::{Edition, Event, LockState};
-use std::alloc::{AllocError, Global};
 
 // Those there are, and two past the last.
 pub const EDITIONS: u8 = 6;
 
+// The values that a place has as a byte.
+const PLACES: usize = 256;
+
 const ROWS: usize = LockState::PROCESSORS as usize;
 
-// How many events of an edition were accepted, the refusals' digest, and the places with which every row was accepted.
-#[derive(Drop)]
+// How many events of an edition were accepted, the refusals' digest, and for each place whether every row was accepted with it.
+#[derive(Clone, Copy)]
 pub struct Tried {
     pub accepted: usize,
     pub digest: Digest,
-    pub places: Vec<u8>,
+    pub places: [bool; PLACES],
 }
 
 impl Tried {
-    pub fn of(alloc: Global, edition: u8) -> Result<Tried, AllocError> {
+    pub fn of(edition: u8) -> Tried {
         let mut tried = Tried {
             accepted: 0,
             digest: Digest::new(),
-            places: Vec::new(alloc),
+            places: [false; PLACES],
         };
         for place in 0..=u8::MAX {
-            tried.add(edition, place)?;
+            tried.add(edition, place);
         }
-        Ok(tried)
+        tried
     }
 
     // The place in each row in turn.
-    fn add(&mut self, edition: u8, place: u8) -> Result<(), AllocError> {
+    fn add(&mut self, edition: u8, place: u8) {
         // As the digest takes them: by their numbers, 0 for accepted.
         let mut refusals = [0; ROWS];
         for (row, refusal) in refusals.iter_mut().enumerate() {
@@ -44,10 +46,7 @@ impl Tried {
         self.digest.add(&refusals);
         let accepted = refusals.iter().filter(|r| **r == 0).count();
         self.accepted = self.accepted.saturating_add(accepted);
-        if accepted == ROWS {
-            self.places.push(place)?;
-        }
-        Ok(())
+        self.places[place as usize] = accepted == ROWS;
     }
 }
 
