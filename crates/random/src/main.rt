@@ -23,7 +23,6 @@ use dice::Dice;
 use digest::Digest;
 use handed::Block;
 use list::Entry;
-use std::fmt::Display;
 use text::TOO_LONG;
 use tried::Tried;
 
@@ -49,36 +48,39 @@ fn schedules(rt: &impl Print, room: &mut [u8; TOO_LONG], log: &mut [u8]) {
 }
 
 // The number of a schedule, its log's length and digest; the schedule's own digest, where its letters' case is drawn; and the
-// log itself for a few.
+// log itself for a few. Here and below, what cannot be written is left out; whoever compares what is printed sees it.
 fn show(rt: &impl Print, i: u32, schedule: &[u8], log: &[u8]) {
-    put(rt, i, log.len(), Digest::of(log));
-    if plan::CASED_FROM <= i {
-        put_more(rt, Digest::of(schedule));
+    let length = log.len();
+    let digest = Digest::of(log);
+    if i < plan::CASED_FROM {
+        let _ = println!(rt; "{i} {length} {digest}");
+    } else {
+        let own = Digest::of(schedule);
+        let _ = println!(rt; "{i} {length} {digest} {own}");
     }
-    write(rt, b"\n");
     if matches!(i % 120, 5 | 7) {
-        write(rt, log);
+        let _ = rt.write_all(log);
     }
 }
 
 fn states(rt: &impl Print) {
     for number in 0..handed::BLOCKS {
         let Block { accepted, digest } = Block::tried(number);
-        print(rt, number, accepted, digest);
+        let _ = println!(rt; "{number} {accepted} {digest}");
     }
 }
 
 fn pairs(rt: &impl Print, log: &mut [u8]) {
     for a in 0..=u8::MAX {
         let Logs { length, digest } = Logs::swept(|b| bytes::pair(a, b), log);
-        print(rt, a, length, digest);
+        let _ = println!(rt; "{a} {length} {digest}");
     }
 }
 
 fn places(rt: &impl Print, log: &mut [u8]) {
     for at in 0..bytes::PLACES {
         let Logs { length, digest } = Logs::swept(|b| bytes::place(at, b), log);
-        print(rt, at, length, digest);
+        let _ = println!(rt; "{at} {length} {digest}");
     }
 }
 
@@ -100,58 +102,21 @@ fn run_list(rt: &impl Print, i: u32, room: &mut [u8; TOO_LONG]) {
     let told = reported::reported(list, table, room);
     list::turn(list, turn);
     let other = reported::reported(list, table, room);
-    put(rt, i, told.refused, told.answers);
-    write(rt, b" ");
-    print(rt, told.table, other.refused, other.table);
+    let _ = println!(rt;
+        "{i} {} {} {} {} {}",
+        told.refused, told.answers, told.table, other.refused, other.table
+    );
 }
 
 fn editions(rt: &impl Print) {
     for edition in 0..tried::EDITIONS {
         let tried = Tried::of(edition);
-        put(rt, edition, tried.accepted, tried.digest);
+        let _ = print!(rt; "{edition} {} {}", tried.accepted, tried.digest);
         for (place, is_everywhere) in tried.places.iter().enumerate() {
             if *is_everywhere {
-                put_more(rt, place);
+                let _ = print!(rt; " {place}");
             }
         }
-        write(rt, b"\n");
+        let _ = println!(rt);
     }
-}
-
-// One line of three numbers.
-fn print(
-    rt: &impl Print,
-    first: impl Display + Drop,
-    second: impl Display + Drop,
-    third: impl Display + Drop,
-) {
-    put(rt, first, second, third);
-    write(rt, b"\n");
-}
-
-fn put(
-    rt: &impl Print,
-    first: impl Display + Drop,
-    second: impl Display + Drop,
-    third: impl Display + Drop,
-) {
-    put_number(rt, first);
-    put_more(rt, second);
-    put_more(rt, third);
-}
-
-// One number more on a line.
-fn put_more(rt: &impl Print, number: impl Display + Drop) {
-    write(rt, b" ");
-    put_number(rt, number);
-}
-
-// A number, a space or a line's end is a write of its own, and what cannot be written is left out; whoever compares what is printed
-// sees it.
-fn put_number(rt: &impl Print, number: impl Display + Drop) {
-    let _ = print!(rt; "{number}");
-}
-
-fn write(rt: &impl Print, bytes: &[u8]) {
-    let _ = rt.write_all(bytes);
 }
