@@ -2,14 +2,16 @@
 // bench's does, and both by the definitions of bench's Bridge. The state stands in the loop and each line changes it there, since a
 // state that is answered is copied with all its rows. `turn` and `begin` are not bench's: bench's say what becomes of the log, and as public
 // functions they would have to ask for a sound state.
-ghost use Rattle.std.specs.Prelude.{◌<◌, ◌≤◌, length};
+ghost use Rattle.std.specs.Prelude.{◌≡◌, false, ◌<◌, ◌≤◌, length};
 ghost use Rattle.lock.specs.Kept.{Whole};
+ghost use Rattle.frame.specs.Reading.{told as frame_told, reads};
 ghost use Rattle.bench.specs.Log.{longest};
 ghost use Rattle.report.specs.Followed.{told, followed_of, Turns, Begins, Agrees, Follows};
 
 use crate::counting;
 use crate::counting::{Accepted, Account};
 use bench::{LONGEST, Refusal};
+use frame::Frame;
 use lock::LockState;
 
 // A schedule's refusal and its line.
@@ -33,7 +35,7 @@ fn turn(state: &mut LockState, text: &[u8]) -> Result<Accepted, Refusal>
     requires some { 0 < length text.now }
     ensures { Turns state.old text.now state.new result }
 {
-    let line = frame::read(text, false)?;
+    let line = read(text)?;
     let before = state.row(line.second);
     *state = state.carried(line.first, line.second)?;
     let after = state.row(line.second);
@@ -41,6 +43,14 @@ fn turn(state: &mut LockState, text: &[u8]) -> Result<Accepted, Refusal>
         p: usize::from(line.second),
         did: counting::told_apart(line.first, before.place, after.place),
     })
+}
+
+// A later line. A call of its own, and not put into the loop as the reader is: the loop holds all rows in what the reader would take for itself.
+#[inline(never)]
+fn read(text: &[u8]) -> Result<Frame, frame::Refusal>
+    ensures { frame_told result ≡ reads text.now false }
+{
+    frame::read(text, false)
 }
 
 // The later lines, one after the other, from a state on.
@@ -90,6 +100,8 @@ pub(crate) fn heard(schedule: &[u8]) -> Result<Followed, Stopped>
             line: 0,
         });
     }
-    let state = begin(schedule).map_err(|refusal| Stopped { refusal, line: 1 })?;
-    follow(state, frame::rest(schedule))
+    match begin(schedule) {
+        Ok(state) => follow(state, frame::rest(schedule)),
+        Err(refusal) => Err(Stopped { refusal, line: 1 }),
+    }
 }
