@@ -45,7 +45,8 @@ fn turn(state: &mut LockState, text: &[u8]) -> Result<Accepted, Refusal>
     })
 }
 
-// A later line. A call of its own, and not put into the loop as the reader is: the loop holds all rows in what the reader would take for itself.
+// A later line. A call, where `frame::read` is put into the loop of its caller: this loop holds all rows in the registers that the reader
+// would take, and moves them aside at each line (docs/DECISIONS 154).
 #[inline(never)]
 fn read(text: &[u8]) -> Result<Frame, frame::Refusal>
     ensures { frame_told result ≡ reads text.now false }
@@ -100,6 +101,8 @@ pub(crate) fn heard(schedule: &[u8]) -> Result<Followed, Stopped>
             line: 0,
         });
     }
+    // No `map_err`: in a Result of a state and a `Stopped` the two would lie over one another, and the state would be held in pieces as small as
+    // the fields of the other, at every line that follows.
     match begin(schedule) {
         Ok(state) => follow(state, frame::rest(schedule)),
         Err(refusal) => Err(Stopped { refusal, line: 1 }),

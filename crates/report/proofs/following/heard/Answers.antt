@@ -1,5 +1,5 @@
 -- `report::following::heard` meets its contract: the schedule's length first, then line 1, then the others.
-use Rattle.std.proofs.Common.{◌≡◌, Err, refl, ap, ◌∙◌}
+use Rattle.std.proofs.Common.{refl, ap, ◌∙◌}
 use Rattle.lock.specs.declared.LockState.{LockState}
 use Rattle.bench.specs.Named.{number}
 use Rattle.bench.specs.Bridge.{first_state}
