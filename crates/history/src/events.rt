@@ -115,16 +115,16 @@ impl History {
     fn recorded(self, event: lock::Event, p: u8) -> Result<Moved<History>, Refused>
         ensures { told p result ≡ recorded self p (carried self.lock (event_number event) p) }
     {
-        let lock = self
-            .lock
-            .carried(u8::from(event), p)
-            .map_err(|refused| self.refused(Refusal::from(refused.refusal)))?;
-        Ok(Moved {
-            processor: p,
-            state: History {
-                lock,
-                journal: self.journal.pushed(Entry::of(self.lock, p)),
-            },
-        })
+        // No `map_err`: a Result of a lock's state and a whole history would be cleared at each event, with all of the journal's room.
+        match self.lock.carried(u8::from(event), p) {
+            Ok(lock) => Ok(Moved {
+                processor: p,
+                state: History {
+                    lock,
+                    journal: self.journal.pushed(Entry::of(self.lock, p)),
+                },
+            }),
+            Err(refused) => Err(self.refused(Refusal::from(refused.refusal))),
+        }
     }
 }
